@@ -1,9 +1,11 @@
 -- Codes below the size as a carrier of their own, on which the laws have no premise. Assumes nothing.
 use mathlib.Core.Path.{_≡_, refl, sym, ap, _∙_}
 use mathlib.Core.HLevel.{Σ-prop-path}
+use mathlib.Core.Logic.{_⊎_, inl, inr, ⊎-elim}
 use Prim.Native.Nat.{ℕ, zero, suc, _<_, _≤_}
 use native.Mathlib.Bridge.{le-prop}
 use native.Mathlib.Omega.{arith}
+use Rattle.std.proofs.shelf.Tests.{cases-eq}
 use Rattle.field.specs.Ops.{Ops, Ring}
 use Rattle.field.specs.Algebra.{Algebra, RingLaws, Lawful}
 
@@ -50,3 +52,12 @@ module _ (A : Algebra) (L : Lawful A) where
 
   pub elements-ring : Ring elements
   elements-ring = carrier-ring A (L .ring) (L .least)
+
+  pub elements-inverse : (x : Code (A .size)) → (x ≡ elements .nil → ⊥) → (y : Code (A .size)) × (elements .prod x y ≡ elements .unit)
+  elements-inverse x ne =
+      let h = L .inverse-prod (x .0) (x .1) (λ e. ne (code-path _ _ e)) in ((h .0, h .2), code-path _ _ (h .3))
+
+  pub elements-decide : (x : Code (A .size)) → (x ≡ elements .nil) ⊎ (x ≡ elements .nil → ⊥)
+  elements-decide x =
+      ⊎-elim (λ (e : x .0 ≡ 0). inl (code-path _ _ e)) (λ (ne : x .0 ≡ 0 → ⊥). inr (λ e. ne (ap (λ (c : Code (A .size)). c .0) e)))
+      (cases-eq (x .0) 0)

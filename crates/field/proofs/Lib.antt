@@ -1,3 +1,4 @@
 pub mod Codes
 pub mod Inverse
 pub mod Rings
+pub mod Transfer

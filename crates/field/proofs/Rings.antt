@@ -54,6 +54,9 @@ module _ {K : Type 0} {o : Ops K} (R : Ring o) where
       (opp-unique (x ⊕ y) (opp x ⊕ opp y)
       (sum-across x y (opp x) (opp y) ∙ ap (λ w. w ⊕ (y ⊕ opp y)) (sum-opp x) ∙ nil-sum (y ⊕ opp y) ∙ sum-opp y))
 
+  pub difference-nil : (x y : K) → x ⊕ opp y ≡ nil → x ≡ y
+  difference-nil x y e = sym (opp-opp x) ∙ ap opp (sym (opp-unique x (opp y) e)) ∙ opp-opp y
+
   pub prod-nil : (x : K) → x ⊗ nil ≡ nil
   prod-nil x =
       sum-cancel (x ⊗ nil) (x ⊗ nil) nil
