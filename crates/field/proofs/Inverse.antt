@@ -7,8 +7,8 @@ use native.Mathlib.Omega.{arith}
 use lib.Dec.{eqb}
 use Rattle.std.specs.declared.option.Option.{Option}
 use Rattle.std.specs.declared.option.Option.the-variants.{Some, None}
-use Rattle.std.proofs.shelf.Tests.{eq-eqb, ne-eqb, eqb-true, cases-bool, cases-eq, false≢true}
-use Rattle.field.specs.Algebra.{Algebra, RingLaws, Lawful, first, inverse, Quotient}
+use Rattle.std.proofs.shelf.Tests.{eq-eqb, ne-eqb, eqb-true, cases-bool, cases-eq, cases-lt, false≢true}
+use Rattle.field.specs.Algebra.{Algebra, RingLaws, Lawful, first, or-else, inverse, Quotient}
 use Rattle.field.proofs.Codes.{Code, code-path, carrier-ring, elements, elements-ring}
 use Rattle.field.proofs.Rings.{inverse-unique, nil-prod, prod-left-comm}
 
@@ -16,6 +16,23 @@ pub first-none : (f : ℕ → Bool) (n : ℕ) → ((k : ℕ) → k < n → f k �
 unfolding first
 first-none f zero h = refl
 first-none f (suc n) h = rw (first-none f n (λ k l. h k (omega arith)), h n (omega arith)) refl
+
+pub none-first : (f : ℕ → Bool) (n : ℕ) → first f n ≡ None → (k : ℕ) → k < n → f k ≡ false
+unfolding first
+none-first f zero e k l = absurd (omega arith)
+none-first f (suc n) e k l = go (first f n) (f n) refl refl e (λ h m. none-first f n h k m)
+  where
+    go :
+        (r : Option ℕ) (b : Bool)
+        → first f n ≡ r
+        → f n ≡ b
+        → or-else r b n ≡ None
+        → (first f n ≡ None → k < n → f k ≡ false)
+        → f k ≡ false
+    go (Some y) b p q h rec = absurd (let z : _≡_ {A = ℕ} 0 1 = cc in omega arith)
+    go None true p q h rec = absurd (let z : _≡_ {A = ℕ} 0 1 = cc in omega arith)
+    go None false p q h rec =
+        ⊎-elim (λ (m : k < n). rec p m) (λ (m : n ≤ k). let e : k ≡ n = omega arith in ap f e ∙ q) (cases-lt k n)
 
 pub first-some :
     (f : ℕ → Bool) (n y : ℕ) → y < n → f y ≡ true → ((k : ℕ) → k < n → f k ≡ true → k ≡ y) → first f n ≡ Some y

@@ -1,4 +1,5 @@
 pub mod Codes
 pub mod Inverse
+pub mod Powers
 pub mod Rings
 pub mod Transfer

@@ -1,9 +1,9 @@
 -- What the laws of a commutative ring give, over any carrier. Assumes nothing.
-use mathlib.Core.Path.{_≡_, refl, sym, ap, _∙_}
+use mathlib.Core.Path.{_≡_, refl, sym, ap, ap₂, _∙_}
 use mathlib.Core.List.{List, [], _∷_, _++_, map}
 use Prim.Native.Nat.{ℕ, zero, suc, _+_, _*_}
 use native.Mathlib.Nat.{zero-add, suc-add, zero-mul, suc-mul}
-use Rattle.field.specs.Ops.{Ops, Ring, total, product, power}
+use Rattle.field.specs.Ops.{Ops, Ring, total, product, dot, power}
 
 module _ {K : Type 0} {o : Ops K} (R : Ring o) where
   open Ops o using (nil, unit, opp, sum as _⊕_, prod as _⊗_)
@@ -125,3 +125,23 @@ module _ {K : Type 0} {o : Ops K} (R : Ring o) where
   total-swapped f (x ∷ xs) ys =
       ap (λ w. total o (map (f x) ys) ⊕ w) (total-swapped f xs ys)
       ∙ sym (total-sums (f x) (λ y. total o (map (λ x. f x y) xs)) ys)
+
+  pub dot-nils : {X : Type 0} (cs : List K) (xs : List X) → dot o cs (map (λ _. nil) xs) ≡ nil
+  dot-nils [] xs = refl
+  dot-nils (c ∷ cs) [] = refl
+  dot-nils (c ∷ cs) (x ∷ xs) = ap₂ _⊕_ (prod-nil c) (dot-nils cs xs) ∙ nil-sum nil
+
+  pub dot-sums :
+      {X : Type 0} (f g : X → K) (cs : List K) (xs : List X)
+      → dot o cs (map (λ x. f x ⊕ g x) xs) ≡ dot o cs (map f xs) ⊕ dot o cs (map g xs)
+  dot-sums f g [] xs = sym (nil-sum nil)
+  dot-sums f g (c ∷ cs) [] = sym (nil-sum nil)
+  dot-sums f g (c ∷ cs) (x ∷ xs) =
+      ap₂ _⊕_ (prod-sum c (f x) (g x)) (dot-sums f g cs xs)
+      ∙ sum-across (c ⊗ f x) (c ⊗ g x) (dot o cs (map f xs)) (dot o cs (map g xs))
+
+  pub dot-scaled : {X : Type 0} (b : K) (f : X → K) (cs : List K) (xs : List X) → dot o cs (map (λ x. b ⊗ f x) xs) ≡ b ⊗ dot o cs (map f xs)
+  dot-scaled b f [] xs = sym (prod-nil b)
+  dot-scaled b f (c ∷ cs) [] = sym (prod-nil b)
+  dot-scaled b f (c ∷ cs) (x ∷ xs) =
+      ap₂ _⊕_ (prod-left-comm c b (f x)) (dot-scaled b f cs xs) ∙ sym (prod-sum b (c ⊗ f x) (dot o cs (map f xs)))

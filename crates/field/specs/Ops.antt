@@ -21,6 +21,12 @@ abbrev pub product : {K : Type 0} → Ops K → List K → K
 product o [] = o .unit
 product o (x ∷ xs) = o .prod x (product o xs)
 
+-- the sum of the products of two lists, place by place
+abbrev pub dot : {K : Type 0} → Ops K → List K → List K → K
+dot o [] ys = o .nil
+dot o (x ∷ xs) [] = o .nil
+dot o (x ∷ xs) (y ∷ ys) = o .sum (o .prod x y) (dot o xs ys)
+
 -- x to the n: n factors x
 abbrev pub power : {K : Type 0} → Ops K → K → ℕ → K
 power o x zero = o .unit

@@ -3,15 +3,16 @@ use mathlib.Core.Path.{_≡_, refl, sym, ap, ap₂, subst, _∙_}
 use mathlib.Core.Logic.{_⊎_, inl, inr, ⊎-elim}
 use Prim.Native.Nat.{ℕ, _+_, _*_, _<_, _≤_}
 use native.Mathlib.Omega.{arith}
+use lib.Dec.{eqb}
 use Rattle.std.specs.declared.option.Option.the-variants.{Some, None}
 use Rattle.std.proofs.shelf.Bits.{mul-le}
-use Rattle.std.proofs.shelf.Tests.{cases-eq}
+use Rattle.std.proofs.shelf.Tests.{both-ways, eq-eqb}
 use Rattle.field.specs.Ops.{Ops, Ring}
-use Rattle.field.specs.Algebra.{Algebra, RingLaws, Lawful, ops, inverse}
+use Rattle.field.specs.Algebra.{Algebra, RingLaws, Lawful, ops, first, inverse}
 use Rattle.field.proofs.Codes.{Code, code-path, elements, elements-ring, elements-inverse, elements-decide}
-use Rattle.field.proofs.Inverse.{inverse-is, inverse-of-zero, inverse-some, inverse-none, lawful}
+use Rattle.field.proofs.Inverse.{inverse-is, inverse-of-zero, inverse-some, inverse-none, lawful, none-first}
 use Rattle.field.proofs.Transfer.{Stands, stands-ring}
-use Rattle.quadratic.specs.Extension.{pairs, norm, encode, decode, extension, Extends}
+use Rattle.quadratic.specs.Extension.{pairs, norm, encode, decode, extension, Root, Extends}
 use Rattle.quadratic.proofs.Digits.{encode-below, square-fits, low-below, high-below, decode-encode, encode-decode}
 use Rattle.quadratic.proofs.Pairs.{pairs-ring, conjugate, norm-inverse, norm-nil}
 
@@ -118,3 +119,13 @@ module _ (B : Algebra) (L : Lawful B) (u v : ℕ) (E : Extends B u v) where
       let i = L .inverse-prod _ (norm-below n h) (λ z. ne (only-zero-has-norm-zero n h z)) in
       let y = divided n h (i .0, i .2) in
       (code y, stands .below y, prod-by-norm n h (i .0, i .2) (i .3)))
+
+-- No root, by a test of every element that antt computes.
+pub rootless :
+    (B : Algebra) (u v : ℕ)
+    → first (λ x. eqb (B .prod x x) (B .sum (B .prod u x) v)) (B .size) ≡ None
+    → (x : ℕ)
+    → x < B .size
+    → Root B u v x
+    → ⊥
+rootless B u v e x h r = both-ways _ (none-first _ (B .size) e x h) (eq-eqb _ _ r)

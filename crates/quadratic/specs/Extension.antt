@@ -1,6 +1,8 @@
 -- The quadratic extension of a field by a root ω of X² − uX − v: its elements are a + bω, with ω² = uω + v.
 use mathlib.Core.Path.{_≡_}
 use Prim.Native.Nat.{ℕ, _+_, _*_, _/_, _%_, _<_, _≤_}
+use Rattle.std.specs.declared.option.Option.{Option}
+use Rattle.std.specs.declared.option.Option.the-variants.{Some, None}
 use Rattle.field.specs.Ops.{Ops}
 use Rattle.field.specs.Algebra.{Algebra, ops}
 
@@ -45,6 +47,11 @@ extension B u v =
 -- x is a root of X² − uX − v
 abbrev pub Root : Algebra → ℕ → ℕ → ℕ → Type 0
 Root B u v x = B .prod x x ≡ B .sum (B .prod u x) v
+
+-- What a test of every element finds: that there is no root, or the least code of one.
+abbrev pub Least-root : Algebra → ℕ → ℕ → Option ℕ → Type 0
+Least-root B u v None = (x : ℕ) → x < B .size → Root B u v x → ⊥
+Least-root B u v (Some x) = (x < B .size) × Root B u v x × ((y : ℕ) → y < x → Root B u v y → ⊥)
 
 -- What an extension by u and v asks of its base.
 pub record Extends (B : Algebra) (u v : ℕ) : Type 0 where

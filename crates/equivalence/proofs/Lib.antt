@@ -1,0 +1,13 @@
+pub mod Closure
+pub mod Elimination
+pub mod Exactness
+pub mod Functionals
+pub mod Homomorphisms
+pub mod Kept
+pub mod Lists
+pub mod Members
+pub mod Order
+pub mod Progress
+pub mod Space
+pub mod Spans
+pub mod Values

@@ -1,0 +1,5 @@
+pub mod Additive
+pub mod Agree
+pub mod Laws
+pub mod Logarithms
+pub mod Product
