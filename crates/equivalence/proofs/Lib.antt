@@ -11,3 +11,4 @@ pub mod Progress
 pub mod Space
 pub mod Spans
 pub mod Values
+pub mod Valuing

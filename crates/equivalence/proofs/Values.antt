@@ -36,8 +36,21 @@ abbrev pub Bounded : {K : Type 0} → Automaton K → Type 0
 Bounded M = All (λ r. All (λ s. (1 ≤ s) × (s ≤ states M)) (r .children)) (M .rules)
 
 -- s is one of n states
-abbrev State : ℕ → ℕ → Type 0
+abbrev pub State : ℕ → ℕ → Type 0
 State n s = (1 ≤ s) × (s ≤ n)
+
+-- the element of a tree by any function that gives the same product at lists of states
+pub element-by :
+    {K : Type 0} (o : Ops K) (M : Automaton K)
+    → Bounded M
+    → (x : ℕ) (f : Forest) (g : List ℕ → K)
+    → ((ss : List ℕ) → All (State (states M)) ss → along o (M .rules) f ss ≡ g ss)
+    → (s : ℕ)
+    → element o (M .rules) (node x f) s ≡ total o (map (λ r. o .prod (r .weight) (g (r .children))) (leading (M .rules) x s))
+element-by o M b x f g same s =
+    ap (total o)
+    (map-same _ _ (leading (M .rules) x s)
+    (all-kept-by _ _ (M .rules) (all-weaker _ _ (λ r h. ap (o .prod (r .weight)) (same (r .children) h)) (M .rules) b)))
 
 -- A side of a joined vector that begins at place n: there its state s stands at n + (s - 1).
 module _ {K : Type 0} (o : Ops K) (n : ℕ) where
@@ -72,11 +85,7 @@ module _ {K : Type 0} (o : Ops K) (n : ℕ) where
     element-reached :
         Bounded M → (x : ℕ) (f : Forest) (s : ℕ)
         → element o (M .rules) (node x f) s ≡ reached (M .rules) x (map v (children f)) s
-    element-reached b x f s =
-        ap (total o)
-        (map-same _ _ (leading (M .rules) x s)
-        (all-kept-by _ _ (M .rules)
-        (all-weaker _ _ (λ r h. ap (o .prod (r .weight)) (along-across f (r .children) h)) (M .rules) b)))
+    element-reached b x f = element-by o M b x f _ (along-across f)
 
     value-weighed : (t : Tree) → value o M t ≡ weighed (M .finals) (v t)
     value-weighed t =
@@ -107,7 +116,7 @@ module _ {K : Type 0} (o : Ops K) (t : Tree) where
   length-vector : (M : Automaton K) → length (vector o M t) ≡ states M
   length-vector M = length-map (numbers (states M)) (element o (M .rules) t) ∙ length-numbers (states M)
 
-  getD-vector : (M : Automaton K) (s : ℕ) → State (states M) s → getD (vector o M t) (s - 1) (o .nil) ≡ element o (M .rules) t s
+  pub getD-vector : (M : Automaton K) (s : ℕ) → State (states M) s → getD (vector o M t) (s - 1) (o .nil) ≡ element o (M .rules) t s
   getD-vector M s h =
       getD-map (element o (M .rules) t) (numbers (states M)) (s - 1) 0 (o .nil) (omega (arith, length-numbers (states M)))
       ∙ ap (element o (M .rules) t) (getD-numbers (states M) s 0 (h .0) (h .1))

@@ -4,4 +4,5 @@ pub mod Exploration
 pub mod Spans
 pub mod Trees
 pub mod Tries
+pub mod Valuing
 pub mod Theorems

@@ -1,14 +1,15 @@
 -- The theorems that make the answer exact, for every field that keeps the laws and all automata over it.
 use mathlib.Core.Path.{_≡_}
 use mathlib.Core.Logic.{_⊎_, _↔_}
-use mathlib.Core.List.{List}
+use mathlib.Core.List.{List, map}
 use Prim.Native.Nat.{ℕ, _≤_}
 use lib.ListN.{length}
-use Rattle.field.specs.Algebra.{Algebra, Lawful}
+use Rattle.field.specs.Algebra.{Algebra, Lawful, ops}
 use Rattle.equivalence.specs.Trees.{Tree, Over, height}
-use Rattle.equivalence.specs.Automata.{Sides, Sound, dimension}
-use Rattle.equivalence.specs.Entries.{last-of}
+use Rattle.equivalence.specs.Automata.{Automaton, Sides, Sound, vector, value, dimension}
+use Rattle.equivalence.specs.Entries.{Entry, Well-formed, trees, tree-of, last-of}
 use Rattle.equivalence.specs.Tries.{all-tries}
+use Rattle.equivalence.specs.Valuing.{vectors-of, value-of}
 use Rattle.equivalence.specs.Exploration.{Differ, Left, Ended-differs, Ended-equal, Explored, Equivalent}
 
 -- n tries over these sides, of automata over a lawful field, led to these kept trees
@@ -57,3 +58,18 @@ pub record Bounds (A : Algebra) (S : Sides ℕ) (n : ℕ) (kept : List Tree) : T
 
 abbrev pub Always-bounded : Type 0
 Always-bounded = (A : Algebra) (S : Sides ℕ) (n : ℕ) (kept : List Tree) → Reached A S n kept → Bounds A S n kept
+
+-- Worked out entry by entry, whatever the operations: the vectors are those of the entries' trees, and the value is that of
+-- the tree that the list stands for; so another list that stands for the same tree has the same value.
+pub record Valued (A : Algebra) (M : Automaton ℕ) (ranks : List ℕ) (es : List Entry) : Type 0 where
+  pub vectors : vectors-of (ops A) M es ≡ map (vector (ops A) M) (trees es)
+  pub tree : value-of (ops A) M es ≡ value (ops A) M (tree-of es)
+  pub same :
+      (fs : List Entry) → Well-formed ranks fs → tree-of es ≡ tree-of fs → value-of (ops A) M es ≡ value-of (ops A) M fs
+
+abbrev pub Values-of-entries : Type 0
+Values-of-entries =
+    (A : Algebra) (M : Automaton ℕ) (ranks : List ℕ) (es : List Entry)
+    → Sound (A .size) M
+    → Well-formed ranks es
+    → Valued A M ranks es

@@ -11,6 +11,16 @@ pub struct Prime {
     ghost listed: { admitted modulus ≡ true },
 }
 
+// Whether a prime field has this modulus.
+pub fn is_listed(modulus: u32) -> bool
+    ensures { λ r. ⌜ r ≡ admitted modulus ⌝ }
+{
+    match modulus {
+        2 | 3 | 5 | 7 | 65521 | 4294967279 | 4294967291 => true,
+        _ => false,
+    }
+}
+
 impl Prime {
     pub fn new(modulus: u32) -> Prime
         requires { ⌜ admitted modulus ≡ true ⌝ }

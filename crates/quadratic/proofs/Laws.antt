@@ -4,15 +4,18 @@ use mathlib.Core.Logic.{_⊎_, inl, inr, ⊎-elim}
 use Prim.Native.Nat.{ℕ, _+_, _*_, _<_, _≤_}
 use native.Mathlib.Omega.{arith}
 use lib.Dec.{eqb}
+use mathlib.Core.Bool.{not, true}
+use Rattle.std.specs.Options.{isSome}
+use Rattle.std.specs.declared.option.Option.{Option}
 use Rattle.std.specs.declared.option.Option.the-variants.{Some, None}
 use Rattle.std.proofs.shelf.Bits.{mul-le}
-use Rattle.std.proofs.shelf.Tests.{both-ways, eq-eqb}
+use Rattle.std.proofs.shelf.Tests.{both-ways, eq-eqb, ne-eqb, and-parts, and-from, leb-true, le-leb, ltb-true, lt-ltb, false≢true}
 use Rattle.field.specs.Ops.{Ops, Ring}
 use Rattle.field.specs.Algebra.{Algebra, RingLaws, Lawful, ops, first, inverse}
 use Rattle.field.proofs.Codes.{Code, code-path, elements, elements-ring, elements-inverse, elements-decide}
-use Rattle.field.proofs.Inverse.{inverse-is, inverse-of-zero, inverse-some, inverse-none, lawful, none-first}
+use Rattle.field.proofs.Inverse.{inverse-is, inverse-of-zero, inverse-some, inverse-none, lawful, first-none, none-first}
 use Rattle.field.proofs.Transfer.{Stands, stands-ring}
-use Rattle.quadratic.specs.Extension.{pairs, norm, encode, decode, extension, Root, Extends}
+use Rattle.quadratic.specs.Extension.{pairs, norm, encode, decode, extension, Root, Extends, extendable}
 use Rattle.quadratic.proofs.Digits.{encode-below, square-fits, low-below, high-below, decode-encode, encode-decode}
 use Rattle.quadratic.proofs.Pairs.{pairs-ring, conjugate, norm-inverse, norm-nil}
 
@@ -129,3 +132,28 @@ pub rootless :
     → Root B u v x
     → ⊥
 rootless B u v e x h r = both-ways _ (none-first _ (B .size) e x h) (eq-eqb _ _ r)
+
+none-from-test : (o : Option ℕ) → not (isSome o) ≡ true → o ≡ None
+none-from-test None t = refl
+none-from-test (Some x) t = absurd (false≢true t)
+
+-- The test and what it tests.
+pub extends-from-test : (B : Algebra) (u v : ℕ) → extendable B u v ≡ true → Extends B u v
+unfolding extendable
+extends-from-test B u v t =
+    let a = and-parts _ _ t in
+    let b = and-parts _ _ (a .1) in
+    let c = and-parts _ _ (b .1) in
+    record {
+      small = leb-true _ _ (a .0);
+      u-below = ltb-true _ _ (b .0);
+      v-below = ltb-true _ _ (c .0);
+      no-root = rootless B u v (none-from-test _ (c .1));
+    }
+
+pub test-from-extends : (B : Algebra) (u v : ℕ) → Extends B u v → extendable B u v ≡ true
+unfolding extendable
+test-from-extends B u v e =
+    let none = first-none (λ x. eqb (B .prod x x) (B .sum (B .prod u x) v)) (B .size) (λ k h. ne-eqb _ _ (e .no-root k h)) in
+    and-from _ _ (le-leb _ _ (e .small))
+    (and-from _ _ (lt-ltb _ _ (e .u-below)) (and-from _ _ (lt-ltb _ _ (e .v-below)) (ap (λ o. not (isSome o)) none)))

@@ -1,10 +1,13 @@
 -- The quadratic extension of a field by a root ω of X² − uX − v: its elements are a + bω, with ω² = uω + v.
 use mathlib.Core.Path.{_≡_}
+use mathlib.Core.Bool.{Bool, not, _&&_}
 use Prim.Native.Nat.{ℕ, _+_, _*_, _/_, _%_, _<_, _≤_}
+use lib.Dec.{eqb, leb, ltb}
+use Rattle.std.specs.Options.{isSome}
 use Rattle.std.specs.declared.option.Option.{Option}
 use Rattle.std.specs.declared.option.Option.the-variants.{Some, None}
 use Rattle.field.specs.Ops.{Ops}
-use Rattle.field.specs.Algebra.{Algebra, ops}
+use Rattle.field.specs.Algebra.{Algebra, ops, first}
 
 -- a + bω is the pair of a and b
 abbrev pub pairs : {K : Type 0} → Ops K → K → K → Ops (K × K)
@@ -59,6 +62,12 @@ pub record Extends (B : Algebra) (u v : ℕ) : Type 0 where
   pub u-below : u < B .size
   pub v-below : v < B .size
   pub no-root : (x : ℕ) → x < B .size → Root B u v x → ⊥
+
+-- The same as a test, by trying every element of the base.
+unfoldable pub extendable : Algebra → ℕ → ℕ → Bool
+extendable B u v =
+    leb (B .size) 65536
+    && (ltb u (B .size) && (ltb v (B .size) && not (isSome (first (λ x. eqb (B .prod x x) (B .sum (B .prod u x) v)) (B .size)))))
 
 -- A value that extends its base: the base is a field, and u and v suit it.
 pub record Valid (P : Type 0) (B : Algebra) (u v : ℕ) : Type 0 where
