@@ -29,6 +29,12 @@ impl Prime {
     {
         Prime { modulus }
     }
+
+    pub fn modulus(&self) -> u32
+        ensures { λ r. ⌜ r ≡ now (self .entry) .modulus ⌝ }
+    {
+        self.modulus
+    }
 }
 
 pub impl Field for Prime as PrimeField {
@@ -37,7 +43,7 @@ pub impl Field for Prime as PrimeField {
     ghost model = { λ f. residues (f .modulus) };
 
     fn size(&self) -> u64 {
-        self.modulus as u64
+        u64::from(self.modulus)
     }
 
     // By comparison with the distance from b to the modulus, so that no sum passes 32 bits.

@@ -14,6 +14,22 @@ pub struct Pair<F> {
     v: u32,
 }
 
+impl<F> Pair<F> {
+    // The field that it extends.
+    pub fn base(&self) -> &F
+        ensures { λ r. ⌜ now r ≡ now (self .entry) .base ⌝ }
+    {
+        &self.base
+    }
+
+    // The coefficients u and v.
+    pub fn coefficients(&self) -> (u32, u32)
+        ensures { λ r. ⌜ r ≡ (now (self .entry) .u, now (self .entry) .v) ⌝ }
+    {
+        (self.u, self.v)
+    }
+}
+
 // The parts a and b of the code a + q·b.
 fn split(x: u32, q: u64) -> (u32, u32)
     requires { ⌜ 1 ≤ q ⌝ ∗ ⌜ q ≤ 65536 ⌝ ∗ ⌜ x < q * q ⌝ }

@@ -7,6 +7,7 @@ ghost use Rattle.words.specs.Spelled.{spelled};
 ghost use Rattle.words.specs.Words.{inner, is-name};
 ghost use lib.ListN.{length};
 ghost use mathlib.Core.Bool.{false};
+ghost use mathlib.Core.List.{[], _∷_};
 ghost use mathlib.Core.Path.{_≡_};
 use crate::name::Name;
 use crate::put::put_bytes;
@@ -35,6 +36,16 @@ fn is_name(part: &[u8]) -> bool
 }
 
 impl Name {
+    // The name `a`.
+    pub fn a() -> Name
+        ensures { λ r. ⌜ spelled r ≡ 97 ∷ [] ⌝ }
+    {
+        Name {
+            bytes: [b'a', 0, 0, 0, 0, 0, 0, 0],
+            len: 1,
+        }
+    }
+
     // The name with these bytes, where they are a name.
     pub fn new(part: &[u8]) -> Option<Name>
         ensures { λ r. ⌜ Cases r (is-name (now (part .entry)) ≡ false) (λ n. spelled n ≡ now (part .entry)) ⌝ }

@@ -1,0 +1,4 @@
+pub mod Counting
+pub mod Fronts
+pub mod Rules
+pub mod Towers

@@ -1,0 +1,3 @@
+pub mod Absence
+pub mod Children
+pub mod Pieces
