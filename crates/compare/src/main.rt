@@ -1,4 +1,5 @@
 // Reads a text from standard input and prints the answer.
+#![tactic(auto)]
 use report::report;
 use std::io::{Read, Write};
 

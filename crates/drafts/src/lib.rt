@@ -1,4 +1,5 @@
 // What the lines of a text have declared so far, with one method for each kind of value line.
+#![tactic(auto)]
 ghost use Rattle.std.specs.Prelude.{◌≤◌};
 
 use rules::tables::Rules;

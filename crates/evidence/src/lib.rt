@@ -1,6 +1,7 @@
 // An invariant in the type of a struct that is generic over a field: a value of zero size that holds the proof.
 // A plain ghost field cannot cite what a bound's ghost members say; a `Holds` can, and a struct that keeps one beside its
 // state needs no `requires` on its methods.
+#![tactic(auto)]
 ghost use base.Fml.{fex, ftrue};
 ghost use denote.Sharing.{said};
 ghost use Rattle.std.specs.Prelude.{◌≡◌};

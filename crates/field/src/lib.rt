@@ -1,5 +1,7 @@
 // Finite fields as values behind one interface. An element is carried as its code, a whole number below the field's
 // size; code 0 is zero and code 1 is one.
+#![tactic(auto)]
+
 ghost use Rattle.std.specs.Prelude.{◌≡◌, ◌<◌, IfSome};
 ghost use Rattle.field.specs.Algebra.{Algebra, Lawful, inverse, Quotient};
 
@@ -41,8 +43,8 @@ pub trait Field {
 
 // a divided by b, in any field.
 pub fn divide<F: Field>(f: &F, a: u32, b: u32) -> Option<u32>
-    requires { (valid f.now) × ((a < (model f.now).size) × (b < (model f.now).size)) }
-    ensures { Quotient (model f.now) a b result }
+    requires { (F.Field.valid f.now) × ((a < (F.Field.model f.now).size) × (b < (F.Field.model f.now).size)) }
+    ensures { Quotient (F.Field.model f.now) a b result }
 {
     match f.inv(b) {
         Some(c) => Some(f.mul(a, c)),

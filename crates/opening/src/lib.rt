@@ -1,4 +1,5 @@
 // A comparison opened from a record: its automata are those that the record declares.
+#![tactic(auto)]
 mod giving;
 mod opening;
 

@@ -1,4 +1,5 @@
 // The places of a text, and which lines may come next at each.
+#![tactic(auto)]
 mod following;
 mod place;
 

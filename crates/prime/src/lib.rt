@@ -1,4 +1,5 @@
 // Prime fields: the residues modulo a prime of a fixed list. That each of the list is prime is proved, and not assumed.
+#![tactic(auto)]
 ghost use Rattle.std.specs.Prelude.{◌≡◌, true};
 ghost use Rattle.prime.specs.Moduli.{IsPrime, admitted};
 ghost use Rattle.prime.specs.Residues.{residues};

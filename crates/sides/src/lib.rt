@@ -1,4 +1,5 @@
 // One side of a comparison: rules and final weights given to it, and trees weighed in it.
+#![tactic(auto)]
 mod giving;
 mod weighed;
 

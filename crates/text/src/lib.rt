@@ -1,4 +1,5 @@
 // Records, read from texts and written as texts.
+#![tactic(auto)]
 mod exchange;
 mod parts;
 mod record;

@@ -1,4 +1,5 @@
 // The parts of a line: cutting at a byte, numbers, names; and writing them again.
+#![tactic(auto)]
 ghost use Rattle.std.specs.Prelude.{◌≡◌, ℕ, Decides, MatchOption};
 ghost use Rattle.words.specs.Words.{Cut, Lacks, Number};
 
