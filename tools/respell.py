@@ -22,10 +22,15 @@ MADE = re.compile(r"^(?:returns|loop|invariant|decreases|overflow|bounds|slice_b
 GOAL = re.compile(r":\s*(?:goal|need|given|rules?)\.")
 # Facts whose first word names something else, and names that would fall together.
 BY_HAND = {
+    "Coded-set": "CodedSet",
     "conjugate-times": "conjugate_product",
     "kind-of": "shape_kind",
     "rule-of": "rule_model",
 }
+
+# Names that look like the checker's own, and names whose declaration has another form.
+ALSO = """Coded-set admitted-fits automaton-kept codes-kept finals-kept grown-kept has-kept-by is-led low-enough mul-mod-mod named-fits no-rule none-higher
+of-kept product-through rest-same side-at square-fits the-rule value-at""".split()
 
 
 def files(root):
@@ -62,6 +67,7 @@ def declared(root):
             for n in (m[1] or m[2]).split() if m else []:
                 if "-" in n and n.replace("-", "") and not MADE.search(n):
                     found.setdefault(n, set()).add(os.path.relpath(path, root))
+    found |= {n: {"listed by hand"} for n in ALSO}
     return {n: where for n, where in found.items() if n not in library}
 
 

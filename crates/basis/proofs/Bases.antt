@@ -17,7 +17,7 @@ use Rattle.equivalence.proofs.Elimination.{
   codes_few,
   codes_reduce_to_zero,
   codes_more,
-  codes-kept,
+  codes_kept,
 }
 use Rattle.elimination.specs.Vectors.{VectorOver, ZeroBelow, Normalized, reduced_by, scaled_by}
 use Rattle.elimination.specs.Rows.{row_of, Clears}
@@ -39,7 +39,7 @@ module _ (A : Algebra) (D : ℕ) (kept : List (List ℕ)) (b : Basis) where
   echelon_of h = record { coded = h.rows; echelon = to_echelon A D (pivoted_rows b) h.echelon }
 
   sums_of : BasisFor A D kept b → SameSums A D (vectors (pivoted_rows b)) kept
-  sums_of h = record { left = h.rows; right = h.vectors; of_left = h.of_rows; of_right = h.of-kept }
+  sums_of h = record { left = h.rows; right = h.vectors; of_left = h.of_rows; of_right = h.of_kept }
 
   basis_from :
       (rows : List ((p : ℕ) × List ℕ))
@@ -59,7 +59,7 @@ module _ (A : Algebra) (D : ℕ) (kept : List (List ℕ)) (b : Basis) where
         rows = F.coded;
         echelon = from_echelon A D (pivoted_rows b) F.echelon;
         of_rows = T.of_left;
-        of-kept = T.of_right;
+        of_kept = T.of_right;
       }
 
 -- the rows of a basis can clear vectors of its width
@@ -151,7 +151,7 @@ module _
           (rows ∙ ap (λ x. pivoted_rows b ++ ((p, x) ∷ [])) scales)
           (e ∙ h.width)
           (length_push (pivoted_rows b) (new_row A D (pivoted_rows b) v p y) ∙ ap (λ m. m + 1) counts ∙ sym (length_push kept v)) more
-          (codes-kept A L D (pivoted_rows b) E v k p y within n.1.1 one kept (sums_of A D kept b h))
+          (codes_kept A L D (pivoted_rows b) E v k p y within n.1.1 one kept (sums_of A D kept b h))
 
   pub left_out : ZeroBelow (length w) w → Inserts A b v false b
   left_out z D kept h k = (depends D kept h k z, refl)

@@ -28,7 +28,7 @@ pub record BasisFor (A : Algebra) (D : ℕ) (kept : List (List ℕ)) (b : Basis)
   pub rows : All (VectorOver A D) (rows_of b)
   pub echelon : Echelon D (pivoted_rows b)
   pub of_rows : All (SumOfMultiples A D (rows_of b)) kept
-  pub of-kept : All (SumOfMultiples A D kept) (rows_of b)
+  pub of_kept : All (SumOfMultiples A D kept) (rows_of b)
 
 -- the basis is one of some vectors, and the vector has their places
 abbrev pub Insertable : Algebra → Basis → List ℕ → Type 0

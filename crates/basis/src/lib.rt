@@ -1,5 +1,6 @@
 // A basis of the vectors kept so far, in echelon form: it tells whether a further vector depends on them. Over any field.
 #![tactic(auto)]
+
 ghost use Rattle.std.specs.Prelude.{◌≡◌, ◌≤◌, length};
 
 use elimination::Row;

@@ -1,6 +1,7 @@
 // Runs arithmetic with known results in every kind of field. Each line says what was expected and what came, the last one
 // how many cases there were and how many were wrong.
 #![tactic(auto)]
+
 ghost use Rattle.std.specs.Prelude.{◌≡◌, ◌+◌, ◌-◌, ◌^◌, ◌<◌, min, if◌then◌else◌};
 
 use field::Field;

@@ -1,5 +1,6 @@
 // Reads a text from standard input and prints the answer.
 #![tactic(auto)]
+
 use report::report;
 use std::io::{Read, Write};
 

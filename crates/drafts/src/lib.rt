@@ -1,5 +1,6 @@
 // What the lines of a text have declared so far, with one method for each kind of value line.
 #![tactic(auto)]
+
 ghost use Rattle.std.specs.Prelude.{◌≤◌};
 
 use rules::tables::Rules;

@@ -1,5 +1,6 @@
 // Elimination on vectors of codes, over any field: clearing a vector by rows, and making a row of what is left.
 #![tactic(auto)]
+
 ghost use Rattle.std.specs.Prelude.{◌≡◌, length};
 
 pub mod clearing;

@@ -108,11 +108,11 @@ module _ (o : Ops ℕ) where
         → old ≡ gathered (drop i (map f xs))
         → new ≡ led o vs e (f x) old
         → new ≡ gathered (drop (i - 1) (map f xs))
-    gathered_more f xs i x old new some in' is was is-led =
+    gathered_more f xs i x old new some in' is was is_led =
         let l = length-map xs f in
         let at = image_at f xs (i - 1) x (omega arith) is in
         let less = drop_less (map f xs) i (f x) some (omega arith) in
-        is-led
+        is_led
         ∙ ap (led o vs e (f x)) was
         ∙ ap (λ r. led o vs e r (gathered (drop i (map f xs)))) (sym at)
         ∙ ap gathered (sym less)

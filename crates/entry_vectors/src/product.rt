@@ -1,7 +1,7 @@
 // The product of the elements of children.
 ghost use Rattle.std.specs.Prelude.{◌≡◌, ◌<◌, ◌≤◌};
 ghost use Rattle.automaton.specs.Tables.{entry_of};
-ghost use Rattle.equivalence.specs.Valuing.{through as product-through};
+ghost use Rattle.equivalence.specs.Valuing.{through as product_through};
 ghost use Rattle.field.specs.Algebra.{ops};
 ghost use Rattle.rules.specs.Rules.{rule_model};
 ghost use Rattle.vectors.specs.Tables.{vectors_of, width_of};
@@ -28,7 +28,7 @@ fn arity(e: &Entry) -> usize
 // The product of the children's elements at the rule's child states, and zero where there are not as many of these.
 pub(crate) fn through<F: Field>(f: &F, earlier: &Vectors, e: &Entry, rule: &Rule) -> u32
     requires { (valid f.now) × ((Codes (model f.now).size (vectors_of earlier.now)) × ((Earlier (vectors_of earlier.now) (entry_of e.now)) × (States (width_of earlier.now) (rule_model rule.now)))) }
-    ensures value { result ≡ product-through (ops (model f.now)) (vectors_of earlier.now) (entry_of e.now).children (rule_model rule.now).children }
+    ensures value { result ≡ product_through (ops (model f.now)) (vectors_of earlier.now) (entry_of e.now).children (rule_model rule.now).children }
     ensures below { result < (model f.now).size }
 {
     let n = arity(e);

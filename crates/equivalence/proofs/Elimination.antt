@@ -575,10 +575,10 @@ module _ (A : Algebra) (L : Lawful A) (n : ℕ) where
             (echelon_same_span R n (map lift_row rows) (lift v) p (code y) lift_inverse)))))
 
         -- So rows that have the same sums of multiples as the vectors kept have them still when the vector is kept too.
-        pub codes-kept :
+        pub codes_kept :
             (kept : List (List ℕ))
             → SameSums A n (vectors rows) kept
             → SameSums A n (vectors (rows ++ (new_row A n rows v p y ∷ []))) (kept ++ (v ∷ []))
-        codes-kept kept t =
+        codes_kept kept t =
             same_sums_trans (vectors (rows ++ (new_row A n rows v p y ∷ []))) (vectors rows ++ (v ∷ [])) (kept ++ (v ∷ []))
             codes_same (same_sums_push (vectors rows) kept v h t)

@@ -16,9 +16,9 @@ use Rattle.equivalence.specs.Tries.{Try, turns, all_tries}
 use Rattle.equivalence.specs.Exploration.{built, Differ, Depends, Left, next, EndedDiffers, EndedEqual, Goes_on, Tried, Explored, Equivalent}
 use Rattle.equivalence.specs.Theorems.{Reached, LowestDifference, Bounds, EqualIsExact, DiffersIsExactAndLowest, VerdictIsExact, AlwaysBounded}
 use Rattle.equivalence.proofs.Kept.{tall, Rising, named_more}
-use Rattle.equivalence.proofs.Members.{all_from_has, has-kept-by, kept_by_has, has_map, map_has}
+use Rattle.equivalence.proofs.Members.{all_from_has, has_kept_by, kept_by_has, has_map, map_has}
 use Rattle.equivalence.proofs.Order.{Within, Placed, placed, turns_stay, turns_length, all_tries_mono, taken}
-use Rattle.equivalence.proofs.Progress.{Grown, Next, next_grown, next_highest, grown_none, grown_same, grown-kept}
+use Rattle.equivalence.proofs.Progress.{Grown, Next, next_grown, next_highest, grown_none, grown_same, grown_kept}
 use Rattle.equivalence.proofs.Space.{Vector, Spanned}
 use Rattle.equivalence.proofs.Spans.{spanned_member, spanned_trans, functionals_agree, spanned_rows, independent_few}
 use Rattle.equivalence.proofs.Values.{Bounded, children, place, above, above_linear, place_node, value_a, value_b, value_a_functional, value_b_functional, value_a_is, value_b_is, place_past, lifted, lifted_a_bounded, lifted_b_bounded, lifted_dimension, lifted_value_a, lifted_value_b, depends_spanned, spanned_depends}
@@ -117,7 +117,7 @@ module _ (A : Algebra) (L : Lawful A) (S : Sides ℕ) (sa : Sound A.size S.a) (s
       (λ u k.
       let c = kept_by_has (λ t. leb (height t) g) us u k in
       let b = leb-true (height u) g c.1 in
-      has-kept-by (λ t. leb (height t) h) ws u (m u c.0) (le-leb (height u) h (omega arith)))
+      has_kept_by (λ t. leb (height t) h) ws u (m u c.0) (le-leb (height u) h (omega arith)))
       s
 
   spanned_as : (vs : List (Vector K)) (v w : Vector K) → ((i : ℕ) → v i ≡ w i) → Spanned o vs v → Spanned o vs w
@@ -194,7 +194,7 @@ module _ (A : Algebra) (L : Lawful A) (S : Sides ℕ) (sa : Sound A.size S.a) (s
       let left = on.1 in
       let e = length_push kept t in
       record {
-        grown = grown-kept S.ranks n kept g left;
+        grown = grown_kept S.ranks n kept g left;
         done =
             λ j l.
             ⊎_elim
@@ -205,7 +205,7 @@ module _ (A : Algebra) (L : Lawful A) (S : Sides ℕ) (sa : Sound A.size S.a) (s
             let q : j ≡ n = omega arith in
             subst (λ u. Low (height u) after (P u)) (sym (ap (λ i. built after (nth_try after i)) q ∙ built_stays n n kept (t ∷ []) g left))
             (spanned_member R (map P (low (height t) after)) (P t)
-            (has_map P (low (height t) after) t (has-kept-by _ after t (has_push kept t) (le-leb (height t) (height t) (le_refl _))))))
+            (has_map P (low (height t) after) t (has_kept_by _ after t (has_push kept t) (le-leb (height t) (height t) (le_refl _))))))
             (cases_lt j n);
         agree = λ i l d. subst Agree (sym (get_or_append_left kept (t ∷ []) d i (omega arith))) (All-get_or Agree kept i d (omega arith) (all_agree n kept k on.0));
         free =
@@ -223,7 +223,7 @@ module _ (A : Algebra) (L : Lawful A) (S : Sides ℕ) (sa : Sound A.size S.a) (s
       → Known (suc n) kept
   known_same n kept k on dep =
       let t = built kept (next S.ranks n kept) in
-      let none-higher = next_highest S.ranks n kept k.grown (next_grown S.ranks n kept k.grown on.1) in
+      let none_higher = next_highest S.ranks n kept k.grown (next_grown S.ranks n kept k.grown on.1) in
       record {
         grown = grown_same S.ranks n kept k.grown on.1;
         done =
@@ -233,7 +233,7 @@ module _ (A : Algebra) (L : Lawful A) (S : Sides ℕ) (sa : Sound A.size S.a) (s
             let q : n ≡ j = omega arith in
             subst (λ i. let u = built kept (nth_try kept i) in Low (height u) kept (P u)) q
             (spanned_more kept (low (height t) kept) (P t)
-            (λ u m. has-kept-by _ kept u m (le-leb (height u) (height t) (all-has (λ w. height w ≤ height t) kept u none-higher m)))
+            (λ u m. has_kept_by _ kept u m (le-leb (height u) (height t) (all-has (λ w. height w ≤ height t) kept u none_higher m)))
             (depends_spanned A L S sa sb kept t dep)))
             (cases_lt j n);
         agree = k.agree;
@@ -312,7 +312,7 @@ module _ (A : Algebra) (L : Lawful A) (S : Sides ℕ) (sa : Sound A.size S.a) (s
       let rows : (row : List (Vector K)) → length row ≡ rank S.ranks s → All (Has (map P (low g kept))) row → Low (suc g) kept (above R Ŝ s row) =
       λ row e m.
       let c = numbered kept g row m in
-      let low-enough = c.3 in
+      let low_enough = c.3 in
       let y = all s c.0 over.0 (c.1 ∙ e) c.2 (omega arith) in
       let tried = k.done y.0 y.1 in
       let tree : built kept (nth_try kept y.0) ≡ node s (named kept c.0) = ap (built kept) y.2 in

@@ -28,8 +28,8 @@ module _ {X : Type 0} where
         All-weaker _ _ (λ y h e. has_append_right here rest y (h e)) xs (kept_holds p xs),
       )
 
-  pub has-kept-by : (p : X → Bool) (xs : List X) (x : X) → Has xs x → p x ≡ true → Has (filter p xs) x
-  has-kept-by p xs x = all-has (λ x. p x ≡ true → Has (filter p xs) x) xs x (kept_holds p xs)
+  pub has_kept_by : (p : X → Bool) (xs : List X) (x : X) → Has xs x → p x ≡ true → Has (filter p xs) x
+  has_kept_by p xs x = all-has (λ x. p x ≡ true → Has (filter p xs) x) xs x (kept_holds p xs)
 
   pub all_from_has : (P : X → Type 0) (xs : List X) → ((x : X) → Has xs x → P x) → All P xs
   all_from_has P xs h = All-weaker (Has xs) P h xs (all_has_itself xs)

@@ -13,7 +13,7 @@ use Rattle.std.proofs.lemmas.Bool.{cases_Bool, cases_lt, eqb-false, eq-eqb, ne_e
 use Rattle.equivalence.specs.Automata.{numbers}
 use Rattle.equivalence.specs.Trees.{rank, Declared}
 use Rattle.equivalence.specs.Tries.{Try, rows, occurs, rows_in_turn, tries_of, turn, turns, all_tries}
-use Rattle.equivalence.proofs.Members.{all_both, all_joined, all_numbers, has_map, has_joined, has-kept-by, has_numbers}
+use Rattle.equivalence.proofs.Members.{all_both, all_joined, all_numbers, has_map, has_joined, has_kept_by, has_numbers}
 use Rattle.equivalence.proofs.Members.{kept_by_joined, kept_by_map, kept_by_none, joined_same, folded_map}
 use Rattle.equivalence.proofs.Members.{length_joined, length_numbers, sumBy_constant, sumBy_sums}
 
@@ -127,7 +127,7 @@ has_rows i (c ∷ cs) h =
 has_rows_in_turn :
     (i : ℕ) (row : List ℕ) → Within (suc i) row → occurs (suc i) row ≡ true → Has (rows_in_turn (suc i) (length row)) row
 has_rows_in_turn i [] h o = absurd (false≢true o)
-has_rows_in_turn i (c ∷ cs) h o = has-kept-by (occurs (suc i)) _ (c ∷ cs) (has_rows (suc i) (c ∷ cs) h) o
+has_rows_in_turn i (c ∷ cs) h o = has_kept_by (occurs (suc i)) _ (c ∷ cs) (has_rows (suc i) (c ∷ cs) h) o
 
 has_turn :
     (ranks : List ℕ) (i s : ℕ) (row : List ℕ)

@@ -63,22 +63,22 @@ module _ (ranks : List ℕ) where
       let b = p.before in
       All-weaker _ _ (λ t h. rw x.high h) kept (g.capped p.at p.at_most (omega arith))
 
-  pub grown-kept :
+  pub grown_kept :
       (n : ℕ) (kept : List Tree)
       → Grown n kept
       → Left ranks n kept
       → Grown (suc n) (kept ++ (built kept (next ranks n kept) ∷ []))
-  grown-kept n kept g l =
+  grown_kept n kept g l =
       let x = next_grown n kept g l in
       let p = x.place in
       let t = built kept (next ranks n kept) in
       let after = kept ++ (t ∷ []) in
       let e : length after ≡ suc (length kept) = length_push kept t ∙ add-one _ in
-      let none-higher = next_highest n kept g x in
+      let none_higher = next_highest n kept g x in
       record {
         made = rw e (let s = turns_grow (length kept) in omega arith);
         over = All-push (Over ranks) kept _ g.over x.over;
-        rising = rising_push kept t g.rising none-higher;
+        rising = rising_push kept t g.rising none_higher;
         capped =
             λ m h k.
             ⊎_elim
@@ -91,6 +91,6 @@ module _ (ranks : List ℕ) where
             All-push _ kept t (All-weaker _ _ (λ u v. rw same v) kept (g.capped m (omega arith) (omega arith))) (omega arith))
             (λ (late : suc (length kept) ≤ m).
             let same : tall after m ≡ height t = ap (tall after) (let q : m ≡ suc (length kept) = omega arith in q) ∙ tall_last kept t in
-            All-push _ kept t (All-weaker _ _ (λ u v. rw same (omega arith)) kept none-higher) (rw same (omega arith)))
+            All-push _ kept t (All-weaker _ _ (λ u v. rw same (omega arith)) kept none_higher) (rw same (omega arith)))
             (cases_lt m (suc (length kept)));
       }

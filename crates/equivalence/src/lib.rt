@@ -1,6 +1,7 @@
 // The mathematics under the comparer: trees, values and the exploration, with the theorems that make the answer exact.
 // A function here computes nothing: its contract is a theorem over the definitions of specs/.
 #![tactic(auto)]
+
 ghost use Rattle.equivalence.specs.Theorems.{EqualIsExact, DiffersIsExactAndLowest, VerdictIsExact, AlwaysBounded, ValuesOfEntries};
 
 // An exploration that ends with equal proves the automata equivalent.

@@ -2,6 +2,7 @@
 // A plain ghost field cannot cite what a bound's ghost members say; a `Holds` can, and a struct that keeps one beside its
 // state needs no `requires` on its methods.
 #![tactic(auto)]
+
 ghost use base.Fml.{fex, ftrue};
 ghost use denote.Sharing.{said};
 ghost use Rattle.std.specs.Prelude.{◌≡◌};

@@ -7,8 +7,8 @@ use Rattle.extension.specs.Extension.{encode, decode}
 pub encode_below : (q a b : ℕ) → a < q → b < q → encode q (a, b) < q * q
 encode_below q a b ha hb = omega (arith, mul-add-lt b q a q hb ha)
 
-pub square-fits : (q : ℕ) → q ≤ 65536 → q * q ≤ 2 ^ 32
-square-fits q h = mul-le q q 65536 65536 h h
+pub square_fits : (q : ℕ) → q ≤ 65536 → q * q ≤ 2 ^ 32
+square_fits q h = mul-le q q 65536 65536 h h
 
 pub low_below : (q x : ℕ) → 1 ≤ q → (decode q x).0 < q
 low_below q x h = mod-lt x h

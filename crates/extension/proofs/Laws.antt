@@ -8,7 +8,7 @@ use Rattle.field.proofs.Codes.{Code, code_path, elements, elements_ring, element
 use Rattle.field.proofs.Inverse.{inverse_is, inverse_of_zero, inverse_some, inverse_none, lawful, first_none, none_first}
 use Rattle.field.proofs.Transfer.{Stands, stands_ring}
 use Rattle.extension.specs.Extension.{pairs, norm, encode, decode, divided, extension, Root, Extends, extendable}
-use Rattle.extension.proofs.Digits.{encode_below, square-fits, low_below, high_below, decode_encode, encode_decode}
+use Rattle.extension.proofs.Digits.{encode_below, square_fits, low_below, high_below, decode_encode, encode_decode}
 use Rattle.extension.proofs.Pairs.{pairs_ring, conjugate, norm_inverse, norm_nil}
 
 module _ (B : Algebra) (L : Lawful B) (u v : ℕ) (E : Extends B u v) where
@@ -101,7 +101,7 @@ module _ (B : Algebra) (L : Lawful B) (u v : ℕ) (E : Extends B u v) where
 
   pub extension_lawful : Lawful (extension B u v)
   extension_lawful =
-      lawful (extension B u v) extension_ring two_below (square-fits B.size E.small)
+      lawful (extension B u v) extension_ring two_below (square_fits B.size E.small)
       (λ n h ne.
       let i = L.inverse_prod _ (norm_below n h) (λ z. ne (only_zero_has_norm_zero n h z)) in
       let y = conjugate_by n h (i.0, i.2) in

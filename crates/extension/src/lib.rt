@@ -1,6 +1,7 @@
 // The theory of the quadratic extension of a field. The functions of this file
 // compute nothing: the contract of each is a theorem over the definitions of specs/.
 #![tactic(auto)]
+
 ghost use Rattle.extension.specs.Theorems.{ExtensionIsLawful, NormGivesInverse, ExtendsByTest};
 
 // The extension of a lawful field by a root that it lacks keeps the laws of a field.

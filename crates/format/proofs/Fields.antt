@@ -4,7 +4,7 @@ use Rattle.std.proofs.lemmas.Bool.{cases_eq, false≢true}
 use Rattle.field.specs.Algebra.{Algebra, Lawful}
 use Rattle.prime.specs.Moduli.{admitted}
 use Rattle.prime.specs.Inverses.{residue_field}
-use Rattle.prime.specs.Primality.{admitted_prime, admitted-fits}
+use Rattle.prime.specs.Primality.{admitted_prime, admitted_fits}
 use Rattle.polynomials.proofs.Laws.{field}
 use Rattle.extension.specs.Extension.{extension, Extends}
 use Rattle.extension.proofs.Laws.{extension_lawful}
@@ -15,7 +15,7 @@ use Rattle.format.specs.Lines.{kind_fits}
 use Rattle.format.specs.Records.{Record, tower, field_of, AllExtend, ValidRecord}
 
 pub kind_lawful : (k : Kind) → named k ≡ true → Lawful (kind_algebra k)
-kind_lawful (Residues p) h = residue_field p (admitted_prime p h) (admitted-fits p h)
+kind_lawful (Residues p) h = residue_field p (admitted_prime p h) (admitted_fits p h)
 kind_lawful Bytes h = field
 
 pub tower_lawful : (F : Algebra) (ss : List (ℕ × ℕ)) → Lawful F → AllExtend F ss → Lawful (tower F ss)
@@ -35,8 +35,8 @@ extends_middle F [] s back h = h.0
 extends_middle F (x ∷ front) s back h = extends_middle (extension F x.0 x.1) front s back h.1
 
 -- no modulus is 2 ^ 32 itself
-pub named-fits : (k : Kind) → named k ≡ true → kind_fits k
-named-fits (Residues p) h =
+pub named_fits : (k : Kind) → named k ≡ true → kind_fits k
+named_fits (Residues p) h =
     ⊎_elim (λ (e : p ≡ 2 ^ 32). absurd (false≢true (subst (λ n. admitted n ≡ true) e h)))
-    (λ (n : p ≡ 2 ^ 32 → ⊥). omega (arith, admitted-fits p h)) (cases_eq p (2 ^ 32))
-named-fits Bytes h = tt
+    (λ (n : p ≡ 2 ^ 32 → ⊥). omega (arith, admitted_fits p h)) (cases_eq p (2 ^ 32))
+named_fits Bytes h = tt

@@ -381,8 +381,8 @@ part_push q sy p u v less h =
     }
 
 module _ (sy : List Symbol) (ss : List State) (s t : List ℕ) (w : ℕ) (cs : List (List ℕ)) where
-  abbrev the-rule : Rule ℕ
-  the-rule = rule_read (symbol_names sy) (state_names ss) s t w cs
+  abbrev the_rule : Rule ℕ
+  the_rule = rule_read (symbol_names sy) (state_names ss) s t w cs
 
   valid_read :
       (q : ℕ)
@@ -391,22 +391,22 @@ module _ (sy : List Symbol) (ss : List State) (s t : List ℕ) (w : ℕ) (cs : L
       → Declared (state_names ss) t
       → All (Declared (state_names ss)) cs
       → w < q
-      → ValidRule q sy (length ss) the-rule
+      → ValidRule q sy (length ss) the_rule
   valid_read q hs er ht hc hw =
       let ls = length-map sy (λ y. y.name) in
       let lt = length-map ss (λ y. y.name) in
       record {
-        symbol = subst (λ n. NumbersOneOf n the-rule.symbol) ls (numbers_one (symbol_names sy) s hs);
+        symbol = subst (λ n. NumbersOneOf n the_rule.symbol) ls (numbers_one (symbol_names sy) s hs);
         rank = length-map cs (number_of (state_names ss)) ∙ er;
-        target = subst (λ n. NumbersOneOf n the-rule.target) lt (numbers_one (state_names ss) t ht);
-        children = subst (λ n. All (NumbersOneOf n) the-rule.children) lt (all_numbers (state_names ss) cs hc);
+        target = subst (λ n. NumbersOneOf n the_rule.target) lt (numbers_one (state_names ss) t ht);
+        children = subst (λ n. All (NumbersOneOf n) the_rule.children) lt (all_numbers (state_names ss) cs hc);
         weight = hw;
       }
 
 module _ (n : ℕ) (r : Record) (s t : List ℕ) (w : ℕ) (cs : List (List ℕ)) where
   rule_of_a : r.b.rules ≡ [] → Goes (at_rules n r) (gives_rule A s t w cs)
   rule_of_a none f o p =
-      let u = the-rule r.symbols r.a.states s t w cs in
+      let u = the_rule r.symbols r.a.states s t w cs in
       let rest = p.1.1 in
       let line = named_read A (symbol_names r.symbols) (state_names r.a.states) s t w cs p.0 rest.0 rest.1.0 in
       record {
@@ -426,7 +426,7 @@ module _ (n : ℕ) (r : Record) (s t : List ℕ) (w : ℕ) (cs : List (List ℕ)
 
   rule_of_b : Goes (at_rules n r) (gives_rule B s t w cs)
   rule_of_b f o p =
-      let u = the-rule r.symbols r.b.states s t w cs in
+      let u = the_rule r.symbols r.b.states s t w cs in
       let rest = p.1.1 in
       let line = named_read B (symbol_names r.symbols) (state_names r.b.states) s t w cs p.0 rest.0 rest.1.0 in
       record {

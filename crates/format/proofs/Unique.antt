@@ -149,7 +149,7 @@ one_reading (l ∷ ls) [] d e f rest rest' (form, place, pass, r) s h k w =
 one_reading (l ∷ ls) (m ∷ ms) d e f rest rest' (form, _, _, r) (form', _, _, s) h k w =
     let (same, left) = same_line l m ls ms rest rest' form form' w in
     let more = one_reading ls ms (after d l) e f rest rest' r (subst (λ x. Reads (after d x) ms f) (sym same) s) h k left in
-    let rest-same = more.0 in
+    let rest_same = more.0 in
     (cc, more.1, more.2)
 
 end_halts : (d : Draft) → Halts d []

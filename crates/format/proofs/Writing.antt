@@ -9,7 +9,7 @@ use Rattle.equivalence.specs.Automata.{Rule}
 use Rattle.format.specs.Lines.{Side, Line, A, B, opens, rules, Formed}
 use Rattle.format.specs.Records.{State, Part, Record, field_of, AllExtend, symbol_names, state_names, Distinct, NumbersOneOf, ValidRule, ValidPart, ValidRecord, rule_line, lines_of}
 use Rattle.format.specs.Reading.{Draft, blank, MayFollow, checks, AllPass, after, Reads, number_of, Declared, Undeclared}
-use Rattle.format.proofs.Fields.{field_lawful, extends_middle, named-fits}
+use Rattle.format.proofs.Fields.{field_lawful, extends_middle, named_fits}
 use Rattle.format.proofs.Numbering.{all_middle, undeclared_before, number_of_name, numbers_of_names, declared_name}
 use Rattle.format.proofs.Stages.{with_parts, at_steps, at_symbols, at_states, at_rules, draft_at, step_line, symbol_line, state_line, rule_read, rule_named, rule_lines}
 
@@ -269,7 +269,7 @@ module _ (r : Record) (v : ValidRecord r) where
     refl,
     tt,
     (
-      (named-fits r.kind v.kind, v.at_most_two),
+      (named_fits r.kind v.kind, v.at_most_two),
       (r.kind, count, refl),
       (v.kind, tt),
       (

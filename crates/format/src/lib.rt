@@ -1,6 +1,7 @@
 // The text format: its lines, its records and its faults, and what makes it exact. A function here computes nothing: its
 // contract is a theorem over the definitions of specs/.
 #![tactic(auto)]
+
 ghost use Rattle.format.specs.Theorems.{AcceptedIsItsText, TextIsAccepted, AcceptedAsOne, NeverBoth, OneFault};
 
 // An accepted text is that of the record it is accepted as, byte for byte.

@@ -2,6 +2,7 @@
 // bit i for the coefficient of the i-th power. Products are taken modulo x^8 + x^4 + x^3 + x + 1, through logarithms to
 // the base 3.
 #![tactic(auto)]
+
 ghost use Rattle.std.specs.Prelude.{◌≡◌, ◌<◌, MatchOption};
 ghost use Rattle.field.specs.Algebra.{ops};
 ghost use Rattle.field.specs.Ops.{power};

@@ -1,6 +1,7 @@
 // The lines of a text, each written into a buffer. A function asks that the longest line it may write ends below 2^64, so that no
 // sum overflows.
 #![tactic(auto)]
+
 ghost use Rattle.std.specs.Prelude.{◌≡◌, ◌+◌, ◌^◌, ◌<◌, ◌≤◌, [], ◌∷◌, ◌++◌, map, length, decimal};
 ghost use Rattle.tables.specs.Tables.{state_of, symbol_of};
 ghost use Rattle.format.specs.Lines.{extends_by, letter, names_field};

@@ -1,5 +1,6 @@
 // The lines of a text: what a line says, and reading one.
 #![tactic(auto)]
+
 ghost use Rattle.std.specs.Prelude.{◌≡◌, ◌<◌, [], ◌∷◌, length, MatchOption};
 ghost use Rattle.lines.specs.Recognized.{parted, Recognized};
 

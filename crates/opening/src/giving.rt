@@ -4,7 +4,7 @@ ghost use Rattle.comparison.specs.Comparisons.{field_of, session};
 ghost use Rattle.equivalence.specs.Automata.{states as many};
 ghost use Rattle.opening.specs.Opening.{automaton_of, final_of, rank_of, with_finals, with_rules, with_symbols};
 ghost use Rattle.rules.specs.Rules.{rule_model};
-ghost use Rattle.session.specs.Sessions.{side as side-at, with_side, with_sides};
+ghost use Rattle.session.specs.Sessions.{side as side_at, with_side, with_sides};
 ghost use Rattle.session.specs.Validity.{ValidRule, ValidSide};
 ghost use Rattle.session.specs.declared.Phase.TheVariants.{Open};
 ghost use Rattle.std.specs.List.{AllByRecursion as All};
@@ -31,7 +31,7 @@ pub(crate) fn give_symbols<F: Field>(c: &mut Comparison<F>, symbols: &[Symbol])
 
 // Gives all states of a side their final weights.
 pub(crate) fn give_finals<F: Field>(c: &mut Comparison<F>, side: u32, states: &[State])
-    requires { ((session c.old).phase ≡ Open) × ((side ≤ 1) × ((length states.now ≤ 12) × ((many (side-at (session c.old).sides side) ≡ length states.now) × (All (λ w. w < (model (field_of c.old)).size) (map final_of states.now))))) }
+    requires { ((session c.old).phase ≡ Open) × ((side ≤ 1) × ((length states.now ≤ 12) × ((many (side_at (session c.old).sides side) ≡ length states.now) × (All (λ w. w < (model (field_of c.old)).size) (map final_of states.now))))) }
     ensures holds { session c.new ≡ with_sides (session c.old) (with_finals (session c.old).sides side (map final_of states.now)) }
     ensures field { field_of c.new ≡ field_of c.old }
 {
@@ -46,7 +46,7 @@ pub(crate) fn give_finals<F: Field>(c: &mut Comparison<F>, side: u32, states: &[
 
 // Gives a side the rules, after those that it has.
 pub(crate) fn give_rules<F: Field>(c: &mut Comparison<F>, side: u32, rules: &[Rule])
-    requires { ((session c.old).phase ≡ Open) × ((side ≤ 1) × ((length (side-at (session c.old).sides side).rules + length rules.now ≤ 256) × (All (ValidRule (model (field_of c.old)).size (session c.old).sides.ranks (many (side-at (session c.old).sides side))) (map rule_model rules.now)))) }
+    requires { ((session c.old).phase ≡ Open) × ((side ≤ 1) × ((length (side_at (session c.old).sides side).rules + length rules.now ≤ 256) × (All (ValidRule (model (field_of c.old)).size (session c.old).sides.ranks (many (side_at (session c.old).sides side))) (map rule_model rules.now)))) }
     ensures holds { session c.new ≡ with_sides (session c.old) (with_rules (session c.old).sides side (map rule_model rules.now)) }
     ensures field { field_of c.new ≡ field_of c.old }
 {
@@ -67,7 +67,7 @@ pub(crate) fn give_side<F: Field>(
     states: &[State],
     rules: &[Rule],
 )
-    requires { ((session c.old).phase ≡ Open) × ((side ≤ 1) × (((side-at (session c.old).sides side).rules ≡ []) × ((length states.now ≤ 12) × (ValidSide (model (field_of c.old)).size (session c.old).sides.ranks (many (side-at (session c.old).sides side)) (automaton_of states.now rules.now))))) }
+    requires { ((session c.old).phase ≡ Open) × ((side ≤ 1) × (((side_at (session c.old).sides side).rules ≡ []) × ((length states.now ≤ 12) × (ValidSide (model (field_of c.old)).size (session c.old).sides.ranks (many (side_at (session c.old).sides side)) (automaton_of states.now rules.now))))) }
     ensures holds { session c.new ≡ with_sides (session c.old) (with_side (session c.old).sides side (automaton_of states.now rules.now)) }
     ensures field { field_of c.new ≡ field_of c.old }
 {

@@ -1,5 +1,6 @@
 // A comparison opened from a record: its automata are those that the record declares.
 #![tactic(auto)]
+
 mod giving;
 mod opening;
 

@@ -1,5 +1,6 @@
 // The places of a text, and which lines may come next at each.
 #![tactic(auto)]
+
 mod following;
 mod place;
 

@@ -59,5 +59,5 @@ among_passes f (m ∷ ms) h n t =
 pub admitted_prime : (p : ℕ) → admitted p ≡ true → IsPrime p
 admitted_prime p h = by_trial p (tries p) (among_passes (λ n. tried n (tries n)) moduli refl p h)
 
-pub admitted-fits : (p : ℕ) → admitted p ≡ true → p ≤ 2 ^ 32
-admitted-fits p h = leb-true p _ (among_passes (λ n. leb n (2 ^ 32)) moduli refl p h)
+pub admitted_fits : (p : ℕ) → admitted p ≡ true → p ≤ 2 ^ 32
+admitted_fits p h = leb-true p _ (among_passes (λ n. leb n (2 ^ 32)) moduli refl p h)

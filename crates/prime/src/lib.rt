@@ -1,10 +1,11 @@
 // Prime fields: the residues modulo a prime of a fixed list. That each of the list is prime is proved, and not assumed.
 #![tactic(auto)]
+
 ghost use Rattle.std.specs.Prelude.{◌≡◌, true};
 ghost use Rattle.prime.specs.Moduli.{IsPrime, admitted};
 ghost use Rattle.prime.specs.Residues.{residues};
 ghost use Rattle.prime.specs.Inverses.{residue_field};
-ghost use Rattle.prime.specs.Primality.{admitted_prime, admitted-fits};
+ghost use Rattle.prime.specs.Primality.{admitted_prime, admitted_fits};
 
 use field::Field;
 
@@ -45,7 +46,7 @@ impl Field for Prime {
 
     ghost model = { λ f. residues f.modulus };
 
-    ghost laws = { λ f h. residue_field f.modulus (admitted_prime _ f.listed) (admitted-fits _ f.listed) };
+    ghost laws = { λ f h. residue_field f.modulus (admitted_prime _ f.listed) (admitted_fits _ f.listed) };
 
     fn size(&self) -> u64 {
         u64::from(self.modulus)

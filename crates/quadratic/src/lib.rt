@@ -1,5 +1,6 @@
 // The quadratic extension of any field of at most 65,536 elements, itself a field; so it can be extended once more.
 #![tactic(auto)]
+
 ghost use Rattle.std.specs.Prelude.{◌≡◌, ◌*◌, ◌<◌, ◌≤◌, MatchOption};
 ghost use Rattle.field.specs.Algebra.{ops};
 ghost use Rattle.extension.specs.Extension.{norm, encode, decode, conjugate_product, extension, LeastRoot, Extends, Valid};

@@ -1,5 +1,6 @@
 // Reading a text: line by line, each where it may follow and passes its checks.
 #![tactic(auto)]
+
 ghost use Rattle.std.specs.Result.{MatchResult};
 ghost use Rattle.format.specs.Reading.{Accepted, Faulty};
 ghost use Rattle.refusals.specs.Numbers.{number};

@@ -1,6 +1,7 @@
 // Why something asked is refused: one enum for the whole system, each case with its number. Those from 101 on are faults of
 // what is given, those from 201 on of when it is given, or of room.
 #![tactic(auto)]
+
 ghost use Rattle.refusals.specs.Numbers.{number};
 ghost use Rattle.std.specs.Prelude.{◌≡◌};
 

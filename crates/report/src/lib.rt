@@ -1,5 +1,6 @@
 // What `compare` prints, from the bytes of a text to the bytes of the answer.
 #![tactic(auto)]
+
 ghost use Rattle.std.specs.Prelude.{◌≡◌, length as len, IfOk};
 ghost use Rattle.format.specs.Records.{text_of};
 ghost use Rattle.refusals.specs.Numbers.{number};

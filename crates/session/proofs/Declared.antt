@@ -27,20 +27,20 @@ automaton_path : {fs fs' : List ℕ} {rs rs' : List (Rule ℕ)} → fs ≡ fs' �
 automaton_path p q i = record { finals = p i; rules = q i }
 
 -- the final weights of a side to whose states a call gives none
-finals-kept :
+finals_kept :
     (n y : ℕ) (cs : List Call) (c : Call)
     → ((p : ℕ) → final_given y p c ≡ [])
     → (automaton_given n y (cs ++ (c ∷ []))).finals ≡ (automaton_given n y cs).finals
-finals-kept n y cs c none =
+finals_kept n y cs c none =
     ap (λ (f : ℕ → ℕ). map f (numbers n)) (fun_ext (λ p. ap (last_or 0) (joined_none (final_given y p) cs c (none p))))
 
-automaton-kept :
+automaton_kept :
     (n y : ℕ) (cs : List Call) (c : Call)
     → ((p : ℕ) → final_given y p c ≡ [])
     → rule_given y c ≡ []
     → automaton_given n y (cs ++ (c ∷ [])) ≡ automaton_given n y cs
-automaton-kept n y cs c none no-rule =
-    automaton_path (finals-kept n y cs c none) (joined_none (rule_given y) cs c no-rule)
+automaton_kept n y cs c none no_rule =
+    automaton_path (finals_kept n y cs c none) (joined_none (rule_given y) cs c no_rule)
 
 -- the automaton of the side to which a call gives a rule
 automaton_with_rule :
@@ -50,7 +50,7 @@ automaton_with_rule :
     → automaton_given n y (cs ++ (c ∷ []))
     ≡ record { finals = (automaton_given n y cs).finals; rules = (automaton_given n y cs).rules ++ (r ∷ []) }
 automaton_with_rule n y cs c r none this =
-    automaton_path (finals-kept n y cs c none)
+    automaton_path (finals_kept n y cs c none)
     (joined_push (rule_given y) cs c ∙ ap (λ rs. flat_map (rule_given y) cs ++ rs) this)
 
 final_here : (y q w : ℕ) → final_given y q (call_final y q w) ≡ w ∷ []
@@ -78,7 +78,7 @@ module _ (n m : ℕ) (cs : List Call) where
   after_symbol : (k : ℕ) → sides_given n m (cs ++ (call_symbol k ∷ [])) ≡ with_symbol (sides_given n m cs) k
   after_symbol k =
       let c = call_symbol k in
-      sides_path (joined_push symbol_given cs c) (automaton-kept n 0 cs c (λ p. refl) refl) (automaton-kept m 1 cs c (λ p. refl) refl)
+      sides_path (joined_push symbol_given cs c) (automaton_kept n 0 cs c (λ p. refl) refl) (automaton_kept m 1 cs c (λ p. refl) refl)
 
   after_rule :
       (x f t w : ℕ) (ps : List ℕ)
@@ -87,10 +87,10 @@ module _ (n m : ℕ) (cs : List Call) where
       ≡ with_rule (sides_given n m cs) x (record { symbol = f; target = t; weight = w; children = ps })
   after_rule zero f t w ps h =
       let c = call_rule zero f t w ps in
-      sides_path (joined_none symbol_given cs c refl) (automaton_with_rule n 0 cs c _ (λ p. refl) refl) (automaton-kept m 1 cs c (λ p. refl) refl)
+      sides_path (joined_none symbol_given cs c refl) (automaton_with_rule n 0 cs c _ (λ p. refl) refl) (automaton_kept m 1 cs c (λ p. refl) refl)
   after_rule (suc zero) f t w ps h =
       let c = call_rule (suc zero) f t w ps in
-      sides_path (joined_none symbol_given cs c refl) (automaton-kept n 0 cs c (λ p. refl) refl) (automaton_with_rule m 1 cs c _ (λ p. refl) refl)
+      sides_path (joined_none symbol_given cs c refl) (automaton_kept n 0 cs c (λ p. refl) refl) (automaton_with_rule m 1 cs c _ (λ p. refl) refl)
   after_rule (suc (suc x)) f t w ps h = absurd (omega arith)
 
   after_final :
@@ -102,18 +102,18 @@ module _ (n m : ℕ) (cs : List Call) where
       let c = call_final zero q w in
       sides_path (joined_none symbol_given cs c refl)
       (automaton_with_final n 0 q w cs is.0 (omega (arith, length-map (numbers n) (λ p. last_or 0 (flat_map (final_given 0 p) cs)), length_numbers n)))
-      (automaton-kept m 1 cs c (λ p. refl) refl)
+      (automaton_kept m 1 cs c (λ p. refl) refl)
   after_final (suc zero) q w h is =
       let c = call_final (suc zero) q w in
       sides_path (joined_none symbol_given cs c refl)
-      (automaton-kept n 0 cs c (λ p. refl) refl)
+      (automaton_kept n 0 cs c (λ p. refl) refl)
       (automaton_with_final m 1 q w cs is.0 (omega (arith, length-map (numbers m) (λ p. last_or 0 (flat_map (final_given 1 p) cs)), length_numbers m)))
   after_final (suc (suc x)) q w h is = absurd (omega arith)
 
   after_weigh : (x : ℕ) (es : List Entry) → sides_given n m (cs ++ (call_weigh x es ∷ [])) ≡ sides_given n m cs
   after_weigh x es =
       let c = call_weigh x es in
-      sides_path (joined_none symbol_given cs c refl) (automaton-kept n 0 cs c (λ p. refl) refl) (automaton-kept m 1 cs c (λ p. refl) refl)
+      sides_path (joined_none symbol_given cs c refl) (automaton_kept n 0 cs c (λ p. refl) refl) (automaton_kept m 1 cs c (λ p. refl) refl)
 
 -- an accepted call, from a session that holds what the calls before declared
 after_given :

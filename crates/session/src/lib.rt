@@ -1,6 +1,7 @@
 // What a comparison is asked, by its calls, and what the calls do: the theory of its sessions, over any field.
 // A function here computes nothing: its contract is a theorem over the definitions of specs/.
 #![tactic(auto)]
+
 ghost use Rattle.session.specs.Theorems.{HoldsWhatWasDeclared, WeighsWhatWasDeclared, SymbolsAreNumbered, AlwaysValid, RefusedAlterNothing, CallsDetermine, AcceptedWhenAllPass, RefusedForCause};
 
 // Symbols, rules and final weights are declared while a session is open; sealing ends that.

@@ -4,7 +4,7 @@ use Rattle.field.specs.Algebra.{Algebra, Lawful}
 use Rattle.prime.specs.Residues.{residues}
 use Rattle.prime.specs.Moduli.{admitted}
 use Rattle.prime.specs.Inverses.{residue_field}
-use Rattle.prime.specs.Primality.{admitted_prime, admitted-fits}
+use Rattle.prime.specs.Primality.{admitted_prime, admitted_fits}
 use Rattle.polynomials.specs.Polynomials.{gf256}
 use Rattle.polynomials.proofs.Laws.{field}
 use Rattle.extension.specs.Extension.{extension}
@@ -15,7 +15,7 @@ use Rattle.shapes.specs.declared.shape.Shape.{Shape}
 use Rattle.shapes.specs.declared.shape.Shape.TheVariants.{Prime, Byte, PrimePair, BytePair, PrimeTower, ByteTower}
 
 prime : (p : ℕ) → admitted p ≡ true → Lawful (residues p)
-prime p h = residue_field p (admitted_prime p h) (admitted-fits p h)
+prime p h = residue_field p (admitted_prime p h) (admitted_fits p h)
 
 pub shape_lawful : (s : Shape) → ValidShape s → Lawful (algebra s)
 shape_lawful (Prime f) v = prime f.modulus f.listed

@@ -1,5 +1,6 @@
 // One side of a comparison: rules and final weights given to it, and trees weighed in it.
 #![tactic(auto)]
+
 mod giving;
 mod weighed;
 

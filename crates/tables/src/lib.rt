@@ -1,5 +1,6 @@
 // The tables of what a text declares beside its rules, each an array with a count.
 #![tactic(auto)]
+
 ghost use Rattle.std.specs.Prelude.{◌≡◌, ◌≤◌, length};
 
 use words::Name;

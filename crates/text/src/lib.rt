@@ -1,5 +1,6 @@
 // Records, read from texts and written as texts.
 #![tactic(auto)]
+
 mod exchange;
 mod parts;
 mod record;

@@ -1,6 +1,7 @@
 // Runs cases with known results: texts, and the calls of a comparison. Each line says what was expected and what came, the last one
 // how many cases there were and how many were wrong.
 #![tactic(auto)]
+
 mod tally;
 mod text_rows;
 mod texts;

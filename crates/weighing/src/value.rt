@@ -1,7 +1,7 @@
 // The value of a tree.
 ghost use Rattle.std.specs.Prelude.{◌≡◌, ◌<◌, ◌≤◌, [], map, length};
 ghost use Rattle.automaton.specs.Tables.{automaton_of, entry_of};
-ghost use Rattle.equivalence.specs.Automata.{Sound, states as many, value as value-at};
+ghost use Rattle.equivalence.specs.Automata.{Sound, states as many, value as value_at};
 ghost use Rattle.equivalence.specs.Entries.{tree_of};
 ghost use Rattle.equivalence.specs.Valuing.{last_or};
 ghost use Rattle.field.specs.Algebra.{ops};
@@ -35,7 +35,7 @@ fn final_sum<F: Field>(f: &F, m: &Automaton, vectors: &Vectors) -> u32
 // The value, in the automaton, of the tree that a list of at most 64 entries stands for.
 pub fn weigh<F: Field>(f: &F, m: &Automaton, entries: &[Entry]) -> u32
     requires { (valid f.now) × ((Sound (model f.now).size (automaton_of m.now)) × ((Stands (map entry_of entries.now)) × (length entries.now ≤ 64))) }
-    ensures value { result ≡ value-at (ops (model f.now)) (automaton_of m.now) (tree_of (map entry_of entries.now)) }
+    ensures value { result ≡ value_at (ops (model f.now)) (automaton_of m.now) (tree_of (map entry_of entries.now)) }
     ensures below { result < (model f.now).size }
 {
     let mut vectors = Vectors::empty(m.state_count());

@@ -1,5 +1,6 @@
 // The parts of a line: cutting at a byte, numbers, names; and writing them again.
 #![tactic(auto)]
+
 ghost use Rattle.std.specs.Prelude.{◌≡◌, ℕ, Decides, MatchOption};
 ghost use Rattle.words.specs.Words.{Cut, Lacks, Number};
 

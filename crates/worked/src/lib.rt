@@ -1,5 +1,6 @@
 // Worked cases as theorems: the definitions give the values that they must, and so does the code.
 #![tactic(auto)]
+
 ghost use Rattle.std.specs.Prelude.{◌≡◌, map};
 ghost use Rattle.worked.specs.Table.{arithmetic, AllAsExpected};
 

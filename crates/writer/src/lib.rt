@@ -1,5 +1,6 @@
 // The text of a draft's declarations, written into a caller's buffer.
 #![tactic(auto)]
+
 ghost use Rattle.format.specs.Records.{text_of};
 ghost use Rattle.words.specs.Puts.{overlaid};
 ghost use Rattle.writer.specs.Declared.{Holds, TooShort};

@@ -1,11 +1,11 @@
 use Rattle.std.proofs.Common.{arith, rules}
-use Rattle.extension.proofs.Digits.{encode_below, square-fits}
+use Rattle.extension.proofs.Digits.{encode_below, square_fits}
 use Rattle.quadratic.proofs.join.Goals as goal
 
 pub overflow-add-result : goal.overflow-add-result
 overflow-add-result c =
     let b = encode_below c.args.q c.args.a c.args.b (search rules) (search rules) in
-    let f = square-fits c.args.q (search rules) in search rules
+    let f = square_fits c.args.q (search rules) in search rules
 
 pub returns : goal.returns
 returns c = search (rules, encode_below)
