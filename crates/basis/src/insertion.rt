@@ -28,9 +28,9 @@ impl Basis {
 
     // Keeps the vector exactly where it is no sum of multiples of those kept before, and says whether it did.
     pub fn insert<F: Field>(&mut self, f: &F, vector: &[u32]) -> bool
-        requires field { valid f.now }
-        requires fits { Insertable (model f.now) self.old vector.now }
-        ensures { Inserts (model f.now) self.old vector.now result self.new }
+        requires field { F.Field.valid f.now }
+        requires fits { Insertable (F.Field.model f.now) self.old vector.now }
+        ensures { Inserts (F.Field.model f.now) self.old vector.now result self.new }
     {
         let mut codes = [0; 24];
         let rest = &mut codes[..self.width];

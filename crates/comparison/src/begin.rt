@@ -27,7 +27,7 @@ impl Counts {
 impl<F: Field> Comparison<F> {
     // No symbols, no rules, all final weights zero, and open.
     pub fn begin(field: F, counts: Counts) -> Comparison<F>
-        requires { valid field }
+        requires { F.Field.valid field }
         ensures holds { session result ≡ begun (count_a counts) (count_b counts) }
         ensures field { field_of result ≡ field }
     {

@@ -12,7 +12,7 @@ use refusals::Refusal;
 impl<F: Field> Comparison<F> {
     // Declares a symbol of the rank, and gives its number.
     pub fn symbol(&mut self, rank: u32) -> Result<u32, Refusal>
-        ensures does { Does (model (field_of self.old)) (session self.old) (call_symbol rank) result (session self.new) }
+        ensures does { Does (F.Field.model (field_of self.old)) (session self.old) (call_symbol rank) result (session self.new) }
         ensures field { field_of self.new ≡ field_of self.old }
         ensures same { IfRefused result (state_of self.new ≡ state_of self.old) }
     {
@@ -31,7 +31,7 @@ impl<F: Field> Comparison<F> {
         weight: u32,
         children: &[u32],
     ) -> Result<(), Refusal>
-        ensures does { Does (model (field_of self.old)) (session self.old) (call_rule side symbol target weight children.now) result (session self.new) }
+        ensures does { Does (F.Field.model (field_of self.old)) (session self.old) (call_rule side symbol target weight children.now) result (session self.new) }
         ensures field { field_of self.new ≡ field_of self.old }
         ensures same { IfRefused result (state_of self.new ≡ state_of self.old) }
     {
@@ -43,7 +43,7 @@ impl<F: Field> Comparison<F> {
 
     // Replaces the final weight of a state of a side.
     pub fn set_final(&mut self, side: u32, state: u32, weight: u32) -> Result<(), Refusal>
-        ensures does { Does (model (field_of self.old)) (session self.old) (call_final side state weight) result (session self.new) }
+        ensures does { Does (F.Field.model (field_of self.old)) (session self.old) (call_final side state weight) result (session self.new) }
         ensures field { field_of self.new ≡ field_of self.old }
         ensures same { IfRefused result (state_of self.new ≡ state_of self.old) }
     {
@@ -55,7 +55,7 @@ impl<F: Field> Comparison<F> {
 
     // The value in a side of the tree that a list of entries stands for.
     pub fn weigh(&self, side: u32, entries: &[Entry]) -> Result<u32, Refusal>
-        ensures { Does (model (field_of self.now)) (session self.now) (call_weigh side (map entry_of entries.now)) result (session self.now) }
+        ensures { Does (F.Field.model (field_of self.now)) (session self.now) (call_weigh side (map entry_of entries.now)) result (session self.now) }
     {
         self.holds.known();
         self.state.weigh(side, entries)

@@ -9,11 +9,11 @@ use field::Field;
 
 // Takes from v the multiple of a row that leaves zero at the row's pivot: nothing where it is zero already.
 pub fn clear<F: Field>(f: &F, pivot: usize, row: &[u32], v: &mut [u32])
-    requires field { valid f.now }
+    requires field { F.Field.valid f.now }
     requires place { pivot < length v.old }
-    requires codes { (VectorOver (model f.now) (length v.old) row.now) × (All (λ c. c < (model f.now).size) v.old) }
-    ensures codes { All (λ c. c < (model f.now).size) v.new }
-    ensures value { v.new ≡ cleared_by (model f.now) (length v.old) v.old (pivot, row.now) }
+    requires codes { (VectorOver (F.Field.model f.now) (length v.old) row.now) × (All (λ c. c < (F.Field.model f.now).size) v.old) }
+    ensures codes { All (λ c. c < (F.Field.model f.now).size) v.new }
+    ensures value { v.new ≡ cleared_by (F.Field.model f.now) (length v.old) v.old (pivot, row.now) }
 {
     if v[pivot] == 0 {
         return;
@@ -26,11 +26,11 @@ pub fn clear<F: Field>(f: &F, pivot: usize, row: &[u32], v: &mut [u32])
 
 // Clears v by each row, in order.
 pub fn reduce<F: Field>(f: &F, rows: &[Row], v: &mut [u32])
-    requires field { valid f.now }
-    requires codes { (All (Clears (model f.now) (length v.old)) rows.now) × (All (λ c. c < (model f.now).size) v.old) }
+    requires field { F.Field.valid f.now }
+    requires codes { (All (Clears (F.Field.model f.now) (length v.old)) rows.now) × (All (λ c. c < (F.Field.model f.now).size) v.old) }
     requires narrow { length v.old ≤ 24 }
-    ensures codes { All (λ c. c < (model f.now).size) v.new }
-    ensures value { v.new ≡ reduced_by (model f.now) (length v.old) (map (row_of (length v.old)) rows.now) v.old }
+    ensures codes { All (λ c. c < (F.Field.model f.now).size) v.new }
+    ensures value { v.new ≡ reduced_by (F.Field.model f.now) (length v.old) (map (row_of (length v.old)) rows.now) v.old }
 {
     for row in rows {
         clear(f, row.pivot, &row.codes[..v.len()], v);

@@ -19,9 +19,9 @@ pub fn leading(v: &[u32]) -> Option<usize>
 
 // Multiplies v by c.
 pub fn scale<F: Field>(f: &F, c: u32, v: &mut [u32])
-    requires field { valid f.now }
-    requires codes { (c < (model f.now).size) × (All (λ x. x < (model f.now).size) v.old) }
-    ensures { v.new ≡ scaled_by (model f.now) (length v.old) c v.old }
+    requires field { F.Field.valid f.now }
+    requires codes { (c < (F.Field.model f.now).size) × (All (λ x. x < (F.Field.model f.now).size) v.old) }
+    ensures { v.new ≡ scaled_by (F.Field.model f.now) (length v.old) c v.old }
 {
     for i in 0..v.len() {
         v[i] = f.mul(c, v[i]);
@@ -30,9 +30,9 @@ pub fn scale<F: Field>(f: &F, c: u32, v: &mut [u32])
 
 // Scales v so that it is one at its first place that is not zero, which is the result.
 pub fn normalize<F: Field>(f: &F, v: &mut [u32]) -> Option<usize>
-    requires field { valid f.now }
-    requires codes { All (λ c. c < (model f.now).size) v.old }
-    ensures { Normalized (model f.now) v.old result v.new }
+    requires field { F.Field.valid f.now }
+    requires codes { All (λ c. c < (F.Field.model f.now).size) v.old }
+    ensures { Normalized (F.Field.model f.now) v.old result v.new }
 {
     let pivot = leading(v)?;
     let inverse = f.inv(v[pivot]).unwrap();

@@ -12,21 +12,21 @@ use refusals::Refusal;
 impl<F: Field> State<F> {
     // No symbols, no rules, all final weights zero, and open.
     pub fn begin(field: F, a: usize, b: usize) -> State<F>
-        requires { (valid field) × ((a ≤ 12) × (b ≤ 12)) }
+        requires { (F.Field.valid field) × ((a ≤ 12) × (b ≤ 12)) }
         ensures holds { session_of result ≡ begun a b }
         ensures field { result.field ≡ field }
-        ensures well { Valid (model result.field) (session_of result) }
+        ensures well { Valid (F.Field.model result.field) (session_of result) }
     {
         State::blank(field, a, b)
     }
 
     // Declares a symbol of the rank, and gives its number.
     pub fn symbol(&mut self, rank: u32) -> Result<u32, Refusal>
-        requires { (valid self.old.field) × (Valid (model self.old.field) (session_of self.old)) }
-        ensures does { Does (model self.old.field) (session_of self.old) (call_symbol rank) result (session_of self.new) }
+        requires { (F.Field.valid self.old.field) × (Valid (F.Field.model self.old.field) (session_of self.old)) }
+        ensures does { Does (F.Field.model self.old.field) (session_of self.old) (call_symbol rank) result (session_of self.new) }
         ensures field { self.new.field ≡ self.old.field }
         ensures same { IfRefused result (self.new ≡ self.old) }
-        ensures well { Valid (model self.new.field) (session_of self.new) }
+        ensures well { Valid (F.Field.model self.new.field) (session_of self.new) }
     {
         self.add_symbol(rank)
     }
@@ -40,22 +40,22 @@ impl<F: Field> State<F> {
         weight: u32,
         children: &[u32],
     ) -> Result<(), Refusal>
-        requires { (valid self.old.field) × (Valid (model self.old.field) (session_of self.old)) }
-        ensures does { Does (model self.old.field) (session_of self.old) (call_rule side symbol target weight children.now) result (session_of self.new) }
+        requires { (F.Field.valid self.old.field) × (Valid (F.Field.model self.old.field) (session_of self.old)) }
+        ensures does { Does (F.Field.model self.old.field) (session_of self.old) (call_rule side symbol target weight children.now) result (session_of self.new) }
         ensures field { self.new.field ≡ self.old.field }
         ensures same { IfRefused result (self.new ≡ self.old) }
-        ensures well { Valid (model self.new.field) (session_of self.new) }
+        ensures well { Valid (F.Field.model self.new.field) (session_of self.new) }
     {
         self.add_rule(side, symbol, target, weight, children)
     }
 
     // Replaces the final weight of a state of a side.
     pub fn set_final(&mut self, side: u32, state: u32, weight: u32) -> Result<(), Refusal>
-        requires { (valid self.old.field) × (Valid (model self.old.field) (session_of self.old)) }
-        ensures does { Does (model self.old.field) (session_of self.old) (call_final side state weight) result (session_of self.new) }
+        requires { (F.Field.valid self.old.field) × (Valid (F.Field.model self.old.field) (session_of self.old)) }
+        ensures does { Does (F.Field.model self.old.field) (session_of self.old) (call_final side state weight) result (session_of self.new) }
         ensures field { self.new.field ≡ self.old.field }
         ensures same { IfRefused result (self.new ≡ self.old) }
-        ensures well { Valid (model self.new.field) (session_of self.new) }
+        ensures well { Valid (F.Field.model self.new.field) (session_of self.new) }
     {
         self.put_final(side, state, weight)
     }

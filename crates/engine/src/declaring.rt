@@ -29,7 +29,7 @@ impl<F: Field> State<F> {
     }
 
     pub(crate) fn add_symbol(&mut self, rank: u32) -> Result<u32, Refusal>
-        ensures does { Does (model self.old.field) (session_of self.old) (call_symbol rank) result (session_of self.new) }
+        ensures does { Does (F.Field.model self.old.field) (session_of self.old) (call_symbol rank) result (session_of self.new) }
         ensures field { self.new.field ≡ self.old.field }
         ensures same { IfRefused result (self.new ≡ self.old) }
     {
@@ -48,8 +48,8 @@ impl<F: Field> State<F> {
     }
 
     pub(crate) fn put_final(&mut self, side: u32, state: u32, weight: u32) -> Result<(), Refusal>
-        requires { valid self.old.field }
-        ensures does { Does (model self.old.field) (session_of self.old) (call_final side state weight) result (session_of self.new) }
+        requires { F.Field.valid self.old.field }
+        ensures does { Does (F.Field.model self.old.field) (session_of self.old) (call_final side state weight) result (session_of self.new) }
         ensures field { self.new.field ≡ self.old.field }
         ensures same { IfRefused result (self.new ≡ self.old) }
     {
@@ -69,8 +69,8 @@ impl<F: Field> State<F> {
         weight: u32,
         children: &[u32],
     ) -> Result<(), Refusal>
-        requires { (valid self.old.field) × (All (λ k. k ≤ 3) (session_of self.old).sides.ranks) }
-        ensures does { Does (model self.old.field) (session_of self.old) (call_rule side symbol target weight children.now) result (session_of self.new) }
+        requires { (F.Field.valid self.old.field) × (All (λ k. k ≤ 3) (session_of self.old).sides.ranks) }
+        ensures does { Does (F.Field.model self.old.field) (session_of self.old) (call_rule side symbol target weight children.now) result (session_of self.new) }
         ensures field { self.new.field ≡ self.old.field }
         ensures same { IfRefused result (self.new ≡ self.old) }
     {

@@ -25,7 +25,7 @@ impl<F> Invariant for State<F> {
 impl<F: Field> State<F> {
     // The token that it is.
     pub fn holds(&self) -> Holds<F, State<F>>
-        requires { (valid self.now.field) × (Valid (model self.now.field) (session_of self.now)) }
+        requires { (F.Field.valid self.now.field) × (Valid (F.Field.model self.now.field) (session_of self.now)) }
         ensures field { result.field ≡ self.now.field }
         ensures of { result.of ≡ self.now }
     {

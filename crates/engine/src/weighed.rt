@@ -13,8 +13,8 @@ use sides::weigh_in;
 
 impl<F: Field> State<F> {
     pub fn weigh(&self, side: u32, entries: &[Entry]) -> Result<u32, Refusal>
-        requires { (valid self.now.field) × (Valid (model self.now.field) (session_of self.now)) }
-        ensures { Does (model self.now.field) (session_of self.now) (call_weigh side (map entry_of entries.now)) result (session_of self.now) }
+        requires { (F.Field.valid self.now.field) × (Valid (F.Field.model self.now.field) (session_of self.now)) }
+        ensures { Does (F.Field.model self.now.field) (session_of self.now) (call_weigh side (map entry_of entries.now)) result (session_of self.now) }
     {
         match side {
             0 => weigh_in(&self.field, &self.ranks, &self.a, entries),

@@ -16,9 +16,9 @@ use vectors::tables::Vectors;
 
 // Adds to the element of a state, if the vector has one.
 fn add_at<F: Field>(f: &F, vector: &mut [u32], state: u32, x: u32)
-    requires { (valid f.now) × ((x < (model f.now).size) × (AllBelow (model f.now).size vector.old)) }
-    ensures value { vector.new ≡ added (ops (model f.now)) state x vector.old }
-    ensures below { AllBelow (model f.now).size vector.new }
+    requires { (F.Field.valid f.now) × ((x < (F.Field.model f.now).size) × (AllBelow (F.Field.model f.now).size vector.old)) }
+    ensures value { vector.new ≡ added (ops (F.Field.model f.now)) state x vector.old }
+    ensures below { AllBelow (F.Field.model f.now).size vector.new }
 {
     if state == 0 || state as usize > vector.len() {
         return;
@@ -29,9 +29,9 @@ fn add_at<F: Field>(f: &F, vector: &mut [u32], state: u32, x: u32)
 
 // Adds what a rule of the entry's symbol gives, to the element of the state that it leads to.
 fn lead<F: Field>(f: &F, earlier: &Vectors, e: &Entry, rule: &Rule, vector: &mut [u32])
-    requires { (valid f.now) × ((Codes (model f.now).size (vectors_of earlier.now)) × ((Earlier (vectors_of earlier.now) (entry_of e.now)) × ((SoundRule (model f.now).size (width_of earlier.now) (rule_model rule.now)) × (AllBelow (model f.now).size vector.old)))) }
-    ensures value { vector.new ≡ led (ops (model f.now)) (vectors_of earlier.now) (entry_of e.now) (rule_model rule.now) vector.old }
-    ensures below { AllBelow (model f.now).size vector.new }
+    requires { (F.Field.valid f.now) × ((Codes (F.Field.model f.now).size (vectors_of earlier.now)) × ((Earlier (vectors_of earlier.now) (entry_of e.now)) × ((SoundRule (F.Field.model f.now).size (width_of earlier.now) (rule_model rule.now)) × (AllBelow (F.Field.model f.now).size vector.old)))) }
+    ensures value { vector.new ≡ led (ops (F.Field.model f.now)) (vectors_of earlier.now) (entry_of e.now) (rule_model rule.now) vector.old }
+    ensures below { AllBelow (F.Field.model f.now).size vector.new }
 {
     if rule.symbol == e.symbol {
         let x = f.mul(rule.weight, through(f, earlier, e, rule));
@@ -41,9 +41,9 @@ fn lead<F: Field>(f: &F, earlier: &Vectors, e: &Entry, rule: &Rule, vector: &mut
 
 // The vector of a symbol over the vectors of its children, in the first places, as many as there are states.
 pub fn entry_vector<F: Field>(f: &F, m: &Automaton, e: &Entry, earlier: &Vectors) -> [u32; 12]
-    requires { (valid f.now) × ((Sound (model f.now).size (automaton_of m.now)) × ((Codes (model f.now).size (vectors_of earlier.now)) × ((width_of earlier.now ≡ many (automaton_of m.now)) × (Earlier (vectors_of earlier.now) (entry_of e.now))))) }
-    ensures value { take (many (automaton_of m.now)) result ≡ entry_vector (ops (model f.now)) (automaton_of m.now) (vectors_of earlier.now) (entry_of e.now) }
-    ensures below { AllBelow (model f.now).size result }
+    requires { (F.Field.valid f.now) × ((Sound (F.Field.model f.now).size (automaton_of m.now)) × ((Codes (F.Field.model f.now).size (vectors_of earlier.now)) × ((width_of earlier.now ≡ many (automaton_of m.now)) × (Earlier (vectors_of earlier.now) (entry_of e.now))))) }
+    ensures value { take (many (automaton_of m.now)) result ≡ entry_vector (ops (F.Field.model f.now)) (automaton_of m.now) (vectors_of earlier.now) (entry_of e.now) }
+    ensures below { AllBelow (F.Field.model f.now).size result }
     ensures places { length result ≡ 12 }
 {
     let rules = m.rules();

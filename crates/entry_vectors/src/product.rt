@@ -27,9 +27,9 @@ fn arity(e: &Entry) -> usize
 
 // The product of the children's elements at the rule's child states, and zero where there are not as many of these.
 pub(crate) fn through<F: Field>(f: &F, earlier: &Vectors, e: &Entry, rule: &Rule) -> u32
-    requires { (valid f.now) × ((Codes (model f.now).size (vectors_of earlier.now)) × ((Earlier (vectors_of earlier.now) (entry_of e.now)) × (States (width_of earlier.now) (rule_model rule.now)))) }
-    ensures value { result ≡ product_through (ops (model f.now)) (vectors_of earlier.now) (entry_of e.now).children (rule_model rule.now).children }
-    ensures below { result < (model f.now).size }
+    requires { (F.Field.valid f.now) × ((Codes (F.Field.model f.now).size (vectors_of earlier.now)) × ((Earlier (vectors_of earlier.now) (entry_of e.now)) × (States (width_of earlier.now) (rule_model rule.now)))) }
+    ensures value { result ≡ product_through (ops (F.Field.model f.now)) (vectors_of earlier.now) (entry_of e.now).children (rule_model rule.now).children }
+    ensures below { result < (F.Field.model f.now).size }
 {
     let n = arity(e);
     let m = if n < rule.count { n } else { rule.count };

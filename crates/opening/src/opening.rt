@@ -29,7 +29,7 @@ fn counts_of(source: &Record) -> Counts
 
 // The record's comparison over its field, in the form that the caller chose for it.
 pub fn open<F: Field>(field: F, source: &Record) -> Comparison<F>
-    requires { (valid field) × (model field ≡ field_of (declared source.now)) }
+    requires { (F.Field.valid field) × (F.Field.model field ≡ field_of (declared source.now)) }
     ensures holds { session result ≡ record { phase = Open; sides = sides (declared source.now) } }
     ensures field { field_in result ≡ field }
 {

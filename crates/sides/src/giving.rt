@@ -65,8 +65,8 @@ pub fn give_final<F: Field>(
     state: u32,
     weight: u32,
 ) -> Result<(), Refusal>
-    requires { valid f.now }
-    ensures does { Takes (final_checks (model f.now) (automaton_of m.old) state weight) result m.old (weighted (automaton_of m.old) state weight) m.new }
+    requires { F.Field.valid f.now }
+    ensures does { Takes (final_checks (F.Field.model f.now) (automaton_of m.old) state weight) result m.old (weighted (automaton_of m.old) state weight) m.new }
 {
     if !is_state(m, state) {
         return Err(Refusal::Undeclared);
@@ -88,8 +88,8 @@ pub fn give_rule<F: Field>(
     weight: u32,
     children: &[u32],
 ) -> Result<(), Refusal>
-    requires { (valid f.now) × (All (λ k. k ≤ 3) (ranks_of ranks.now)) }
-    ensures does { Takes (rule_checks (model f.now) (ranks_of ranks.now) (automaton_of m.old) symbol target weight children.now) result m.old (ruled (automaton_of m.old) (record { symbol = symbol; target = target; weight = weight; children = children.now })) m.new }
+    requires { (F.Field.valid f.now) × (All (λ k. k ≤ 3) (ranks_of ranks.now)) }
+    ensures does { Takes (rule_checks (F.Field.model f.now) (ranks_of ranks.now) (automaton_of m.old) symbol target weight children.now) result m.old (ruled (automaton_of m.old) (record { symbol = symbol; target = target; weight = weight; children = children.now })) m.new }
 {
     let Some(rank) = ranks.rank(symbol) else {
         return Err(Refusal::Undeclared);

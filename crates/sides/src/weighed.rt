@@ -17,8 +17,8 @@ pub fn weigh_in<F: Field>(
     m: &Automaton,
     entries: &[Entry],
 ) -> Result<u32, Refusal>
-    requires { (valid f.now) × (Sound (model f.now).size (automaton_of m.now)) }
-    ensures { Weighs (model f.now) (ranks_of ranks.now) (automaton_of m.now) (map entry_of entries.now) result }
+    requires { (F.Field.valid f.now) × (Sound (F.Field.model f.now).size (automaton_of m.now)) }
+    ensures { Weighs (F.Field.model f.now) (ranks_of ranks.now) (automaton_of m.now) (map entry_of entries.now) result }
 {
     if well_formed(ranks, entries) {
         Ok(weigh(f, m, entries))

@@ -17,9 +17,9 @@ use vectors::tables::Vectors;
 
 // The sum over the states of the final weight times the last vector's element.
 fn final_sum<F: Field>(f: &F, m: &Automaton, vectors: &Vectors) -> u32
-    requires { (valid f.now) × ((Sound (model f.now).size (automaton_of m.now)) × ((Codes (model f.now).size (vectors_of vectors.now)) × ((width_of vectors.now ≡ many (automaton_of m.now)) × (1 ≤ length (vectors_of vectors.now))))) }
-    ensures value { result ≡ dot (ops (model f.now)) (automaton_of m.now).finals (last_or [] (vectors_of vectors.now)) }
-    ensures below { result < (model f.now).size }
+    requires { (F.Field.valid f.now) × ((Sound (F.Field.model f.now).size (automaton_of m.now)) × ((Codes (F.Field.model f.now).size (vectors_of vectors.now)) × ((width_of vectors.now ≡ many (automaton_of m.now)) × (1 ≤ length (vectors_of vectors.now))))) }
+    ensures value { result ≡ dot (ops (F.Field.model f.now)) (automaton_of m.now).finals (last_or [] (vectors_of vectors.now)) }
+    ensures below { result < (F.Field.model f.now).size }
 {
     let last = vectors.count() as u32;
     let mut sum = 0;
@@ -34,9 +34,9 @@ fn final_sum<F: Field>(f: &F, m: &Automaton, vectors: &Vectors) -> u32
 
 // The value, in the automaton, of the tree that a list of at most 64 entries stands for.
 pub fn weigh<F: Field>(f: &F, m: &Automaton, entries: &[Entry]) -> u32
-    requires { (valid f.now) × ((Sound (model f.now).size (automaton_of m.now)) × ((Stands (map entry_of entries.now)) × (length entries.now ≤ 64))) }
-    ensures value { result ≡ value_at (ops (model f.now)) (automaton_of m.now) (tree_of (map entry_of entries.now)) }
-    ensures below { result < (model f.now).size }
+    requires { (F.Field.valid f.now) × ((Sound (F.Field.model f.now).size (automaton_of m.now)) × ((Stands (map entry_of entries.now)) × (length entries.now ≤ 64))) }
+    ensures value { result ≡ value_at (ops (F.Field.model f.now)) (automaton_of m.now) (tree_of (map entry_of entries.now)) }
+    ensures below { result < (F.Field.model f.now).size }
 {
     let mut vectors = Vectors::empty(m.state_count());
     for i in 0..entries.len() {

@@ -7,8 +7,8 @@ use field::{Field, divide};
 
 // The operation's result at two codes of the field.
 pub fn perform<F: Field>(f: &F, op: Op, a: u32, b: u32) -> Option<u32>
-    requires { (valid f.now) × ((a < (model f.now).size) × (b < (model f.now).size)) }
-    ensures { Gives (model f.now) op a b result }
+    requires { (F.Field.valid f.now) × ((a < (F.Field.model f.now).size) × (b < (F.Field.model f.now).size)) }
+    ensures { Gives (F.Field.model f.now) op a b result }
 {
     match op {
         Op::Add => Some(f.add(a, b)),
