@@ -17,7 +17,7 @@ returns-then-not-is-ascii-digit c n h =
 
 pub loop-b-preserved : goal.loop-b-preserved
 loop-b-preserved c =
-    let digit : IsInRange 48 57 (get_or c.args.part.now c.loop-b.b-index 0) = c.if-not-is-ascii-digit.ensures.cases in
+    let digit : IsInRange 48 57 (get_or c.args.part.now c.loop-b.b-index 0) = c.if-not-is_ascii_digit.ensures.cases in
     let e = at_drop_more (read c.loop-b.n) c.args.part.now c.loop-b.b-index 0 c.loop-b-test.true in
     (c.loop-b.invariant.0, read_bound c.loop-b.b-index c.loop-b.n _ c.loop-b.invariant.1 digit, below_more _ _ c.loop-b.invariant.2 digit, sym e ∙ c.loop-b.invariant.3)
 

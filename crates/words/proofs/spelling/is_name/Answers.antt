@@ -8,4 +8,4 @@ returns-then-not-is-inner c =
 
 pub returns : goal.returns
 returns c =
-    c.is-ascii-lowercase.ensures.value ∙ name_is c.args.part.now (omega arith) (omega arith) (λ k h. c.loop-b.invariant k (omega arith))
+    c.is_ascii_lowercase.ensures.value ∙ name_is c.args.part.now (omega arith) (omega arith) (λ k h. c.loop-b.invariant k (omega arith))

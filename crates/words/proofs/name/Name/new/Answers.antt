@@ -9,4 +9,4 @@ invariant-of-result c =
     (padded_length _ _ _ e n refl, ((named _ n).short, (padded_name _ _ _ e n, (padded_rest _ _ _ e n refl, tt))))
 
 pub returns : goal.returns
-returns c = padded_front _ _ _ c.copy-from-slice.ensures.after (sym c.if-not-is-name.ensures)
+returns c = padded_front _ _ _ c.copy_from_slice.ensures.after (sym c.if-not-is_name.ensures)
