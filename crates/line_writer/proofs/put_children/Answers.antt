@@ -11,7 +11,7 @@ loop-k-init c = (omega arith, nothing _ _)
 pub loop-k-preserved : goal.loop-k-preserved
 loop-k-preserved c =
     let name = named (state_names (map state_of c.args.states.now)) in
-    (omega arith, next_item after_space name _ c.loop-k.k-index 0 c.loop-k-test.true refl c.loop-k.invariant.1 c.put-state-name-place.ensures.puts)
+    (omega arith, next_item after_space name _ c.loop-k.k-index 0 c.loop-k-test.true refl c.loop-k.invariant.1 c.put_state_name-place.ensures.puts)
 
 pub returns : goal.returns
 returns c =

@@ -8,10 +8,10 @@ use Rattle.line_writer.proofs.put_rule.Goals as goal
 
 pub returns : goal.returns
 returns c =
-    let b = c.put-byte-lettered.ensures in
-    let s = c.put-byte-spaced.ensures in
-    let w = c.put-number-weighted.ensures in
-    let e = c.put-byte.ensures in
+    let b = c.put_byte-lettered.ensures in
+    let s = c.put_byte-spaced.ensures in
+    let w = c.put_number-weighted.ensures in
+    let e = c.put_byte.ensures in
     let u = rule_model c.args.rule.now in
     let name = named (state_names (map state_of c.args.states.now)) in
     let children = map name u.children in
@@ -19,11 +19,11 @@ returns c =
     let fields = symbol ∷ name u.target ∷ decimal u.weight ∷ children in
     record {
       near = omega arith;
-      puts = bytes_are (ap (λ t. t ++ rest fields) c.letter-of.ensures ∙ line_is _ fields)
+      puts = bytes_are (ap (λ t. t ++ rest fields) c.letter_of.ensures ∙ line_is _ fields)
           (byte _ b.next b.put
-          then c.put-symbol-name-named.ensures.puts
-          then c.put-state-name-targeted.ensures.puts
+          then c.put_symbol_name-named.ensures.puts
+          then c.put_state_name-targeted.ensures.puts
           then byte 32 s.next s.put
           then wrote w.next w.put
-          then bytes_are (rest_is children) (c.put-children-last.ensures.puts then byte 10 e.next e.put));
+          then bytes_are (rest_is children) (c.put_children-last.ensures.puts then byte 10 e.next e.put));
     }

@@ -8,18 +8,18 @@ use Rattle.line_writer.proofs.put_symbol_name.Goals as goal
 pub returns-in-Some : goal.returns-in-Some
 returns-in-Some c =
     let found = c.in-Some.ensures.lookup in
-    let s = c.put-byte-spaced.ensures in
+    let s = c.put_byte-spaced.ensures in
     let n = c.put.ensures in
     record {
       near = omega arith;
-      puts = bytes_are (ap after_space (name_at symbol_of (λ x. x.name) c.args.symbols.now c.args.number c.saturating-sub.ensures c.in-Some.s.now found.3.0 found.1))
+      puts = bytes_are (ap after_space (name_at symbol_of (λ x. x.name) c.args.symbols.now c.args.number c.saturating_sub.ensures c.in-Some.s.now found.3.0 found.1))
           (byte 32 s.next s.put then wrote n.next n.put);
     }
 
 pub returns-in-None : goal.returns-in-None
 returns-in-None c =
-    let s = c.put-byte-spaced.ensures in
+    let s = c.put_byte-spaced.ensures in
     record {
       near = omega arith;
-      puts = bytes_are (ap after_space (name_past symbol_of (λ x. x.name) c.args.symbols.now c.args.number c.saturating-sub.ensures (false-ltb _ _ c.in-None.ensures.lookup.0))) (byte 32 s.next s.put);
+      puts = bytes_are (ap after_space (name_past symbol_of (λ x. x.name) c.args.symbols.now c.args.number c.saturating_sub.ensures (false-ltb _ _ c.in-None.ensures.lookup.0))) (byte 32 s.next s.put);
     }

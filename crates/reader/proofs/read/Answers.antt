@@ -5,7 +5,7 @@ use Rattle.format.specs.Reading.{Draft, Faulty, after}
 use Rattle.format.proofs.Loop.{ReadSoFar, so_far_more, so_far_fault, so_far_stops, so_far_done}
 use Rattle.reader.specs.Reads.{meaning}
 use Rattle.reader.proofs.read.Goals as goal
-use Rattle.reader.proofs.read.Goals.{then-rest-gt0-via-then-rest-gt0, then-rest-gt0-via-else-rest-gt0+then-not-is-end}
+use Rattle.reader.proofs.read.Goals.{then-rest-gt0-via-then-rest-gt0, then-rest-gt0-via-else-rest-gt0+then-not-is_end}
 
 -- a line takes at least its line feed
 shorter : (rest bytes more : List ℕ) → Cut 10 rest bytes more → length more < length rest
@@ -52,11 +52,11 @@ returns-then-rest-gt0 c =
     (so_far_stops text rest d (line - 1) c.if-text-gt-LONGEST.false c.loop-bytes.invariant.0 c.in-default.ensures
     (elim c.then-rest-gt0.branch [
       | then-rest-gt0-via-then-rest-gt0 w ↦ λ e _. let z = ap length e in omega (arith, w.if-rest-gt0.true)
-      | then-rest-gt0-via-else-rest-gt0+then-not-is-end w ↦ λ _ k. false≢true (w.if-not-is-end.ensures.1 k)
+      | then-rest-gt0-via-else-rest-gt0+then-not-is_end w ↦ λ _ k. false≢true (w.if-not-is_end.ensures.1 k)
     ]))
 
 pub returns : goal.returns
 returns c =
     let h = so_far_done c.args.text.now c.loop-bytes.rest.now (meaning c.loop-bytes.reader) (c.loop-bytes.line - 1)
-    c.if-text-gt-LONGEST.false c.loop-bytes.invariant.0 (empty _ c.if-rest-gt0.false) (c.if-not-is-end.ensures.0 refl) in
+    c.if-text-gt-LONGEST.false c.loop-bytes.invariant.0 (empty _ c.if-rest-gt0.false) (c.if-not-is_end.ensures.0 refl) in
     h

@@ -4,6 +4,6 @@ use Rattle.report.proofs.refused.Goals as goal
 
 pub returns : goal.returns
 returns c =
-    ap vec_items c.into-bytes.ensures.value
+    ap vec_items c.into_bytes.ensures.value
     ∙ c.in-ok-page.ensures.ok
     ∙ ap (λ n. refusal n c.args.fault.line) c.number-number.ensures

@@ -10,10 +10,10 @@ returns-then-part-eq0 c n h = let s = number_shape _ n h in omega (arith, c.then
 pub returns-then-part-gt1 : goal.returns-then-part-gt1
 returns-then-part-gt1 c n h = let s = number_shape _ n h in omega (arith, s.lead c.if-part-eq48.true)
 
-pub returns-then-not-is-ascii-digit : goal.returns-then-not-is-ascii-digit
-returns-then-not-is-ascii-digit c n h =
+pub returns-then-not-is_ascii_digit : goal.returns-then-not-is_ascii_digit
+returns-then-not-is_ascii_digit c n h =
     let s = number_shape _ n h in
-    omega (arith, s.digital c.loop-b.b-index (omega arith), c.if-not-is-ascii-digit.ensures.cases)
+    omega (arith, s.digital c.loop-b.b-index (omega arith), c.if-not-is_ascii_digit.ensures.cases)
 
 pub loop-b-preserved : goal.loop-b-preserved
 loop-b-preserved c =

@@ -6,5 +6,5 @@ use Rattle.writer.proofs.put_record.Goals as goal
 
 pub returns : goal.returns
 returns c =
-    let all = bytes_are (text_is (record_of c.args.d.now)) (c.put-field-field.ensures.puts then c.put-symbols-symbols.ensures.puts then c.put-both-states-states.ensures.puts then c.put-both-rules.ensures.puts) in
+    let all = bytes_are (text_is (record_of c.args.d.now)) (c.put_field-field.ensures.puts then c.put_symbols-symbols.ensures.puts then c.put_both_states-states.ensures.puts then c.put_both_rules.ensures.puts) in
     record { next = all.place ∙ zero-add _; put = all.put }

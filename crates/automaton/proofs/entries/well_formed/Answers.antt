@@ -12,17 +12,17 @@ returns-then-entries-eq0 c =
       λ h. elim c.then-entries-eq0.either [ inl e ↦ absurd (omega (arith, h.0.some)) | inr e ↦ absurd (omega arith) ],
     )
 
-pub returns-then-not-laid-out : goal.returns-then-not-laid-out
-returns-then-not-laid-out c =
+pub returns-then-not-laid_out : goal.returns-then-not-laid_out
+returns-then-not-laid_out c =
     let x = c.index-entries-i in (
       λ t. absurd (both_ways false refl t),
-      λ h. c.if-not-laid-out.ensures.1 (laid_entry (ranks_of c.args.ranks.now) c.args.entries.now c.loop-i.i x.result (omega arith) x.is h.0.entries),
+      λ h. c.if-not-laid_out.ensures.1 (laid_entry (ranks_of c.args.ranks.now) c.args.entries.now c.loop-i.i x.result (omega arith) x.is h.0.entries),
     )
 
 pub loop-i-preserved : goal.loop-i-preserved
 loop-i-preserved c =
     let x = c.index-entries-i in
-    laid_more (ranks_of c.args.ranks.now) c.args.entries.now c.loop-i.i x.result (omega arith) x.is c.loop-i.invariant (c.if-not-laid-out.ensures.0 refl)
+    laid_more (ranks_of c.args.ranks.now) c.args.entries.now c.loop-i.i x.result (omega arith) x.is c.loop-i.invariant (c.if-not-laid_out.ensures.0 refl)
 
 pub returns : goal.returns
 returns c = (

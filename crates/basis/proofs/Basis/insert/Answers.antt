@@ -9,12 +9,12 @@ reduce-requires g c =
     let A = g.F.Field.model c.args.f.now in
     let b = c.args.self.now in
     let fits = c.requires.fits in
-    let copied = sym c.copy-from-slice.ensures.after in
+    let copied = sym c.copy_from_slice.ensures.after in
     let long = ap length copied in
     record {
       field = c.requires.field;
       codes = (
-        insertable_clears A b c.args.vector.now c.copy-from-slice.new.self _ c.copy-from-slice.ensures.after (omega arith) fits,
+        insertable_clears A b c.args.vector.now c.copy_from_slice.new.self _ c.copy_from_slice.ensures.after (omega arith) fits,
         subst (All (λ x. x < A.size)) copied fits.3.1,
       );
       narrow = omega (arith, long, fits.3.0, fits.2.width);
@@ -23,26 +23,26 @@ reduce-requires g c =
 pub returns-in-default : goal.returns-in-default
 returns-in-default g c =
     left_out (g.F.Field.model c.args.f.now) (g.met.F.Field.laws c.args.f.now c.requires.field) c.args.self.now
-    c.args.vector.now c.copy-from-slice.new.self c.reduce.new.v c.copy-from-slice.ensures.after
+    c.args.vector.now c.copy_from_slice.new.self c.reduce.new.v c.copy_from_slice.ensures.after
     c.reduce.ensures.value c.in-default.ensures.0
 
-pub invariant-of-push : goal.invariant-of-push
-invariant-of-push g c =
-    let long = ap length c.copy-from-slice.ensures.after in
+pub invariant_of-push : goal.invariant_of-push
+invariant_of-push g c =
+    let long = ap length c.copy_from_slice.ensures.after in
     (simp (length-append, length-drop) (omega (arith, long, c.requires.fits.3.0, c.requires.fits.2.width)), tt)
 
 pub push-requires : goal.push-requires
 push-requires g c =
     row_fits (g.F.Field.model c.args.f.now) (g.met.F.Field.laws c.args.f.now c.requires.field) c.args.self.now
-    c.args.vector.now c.copy-from-slice.new.self c.reduce.new.v c.copy-from-slice.ensures.after
+    c.args.vector.now c.copy_from_slice.new.self c.reduce.new.v c.copy_from_slice.ensures.after
     c.reduce.ensures.value c.in-Some.pivot c.normalize.new.v c.in-Some.ensures c.requires.fits
 
 pub returns : goal.returns
 returns g c =
     let b = c.args.self.now in
-    let copied = ap length c.copy-from-slice.ensures.after in
+    let copied = ap length c.copy_from_slice.ensures.after in
     let long : length c.normalize.new.v ≡ b.width = omega (arith, copied, c.requires.fits.3.0, c.requires.fits.2.width) in
     taken_in (g.F.Field.model c.args.f.now) (g.met.F.Field.laws c.args.f.now c.requires.field) b c.args.vector.now
-    c.copy-from-slice.new.self c.reduce.new.v c.copy-from-slice.ensures.after c.reduce.ensures.value
+    c.copy_from_slice.new.self c.reduce.new.v c.copy_from_slice.ensures.after c.reduce.ensures.value
     c.in-Some.pivot c.normalize.new.v c.in-Some.ensures c.push.new.self _ c.push.ensures.width
     c.push.ensures.rows (take_at c.normalize.new.v _ b.width long)

@@ -15,7 +15,7 @@ pub returns : goal.returns
 returns c =
     record {
       value =
-          c.cyclic-power.ensures.value ∙ three_sum c.in-Some.i c.in-Some-logarithm.j
+          c.cyclic_power.ensures.value ∙ three_sum c.in-Some.i c.in-Some-logarithm.j
           ∙ ap₂ times c.in-Some.ensures.2 c.in-Some-logarithm.ensures.2;
-      below = c.cyclic-power.ensures.below;
+      below = c.cyclic_power.ensures.below;
     }

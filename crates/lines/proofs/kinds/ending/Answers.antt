@@ -7,9 +7,9 @@ returns-in-err-number c =
     rw c.from-residual.ensures
     (λ w cs h. c.in-err-number.ensures w (alone_ends _ c.in-None.ensures w cs h))
 
-pub returns-then-not-are-names : goal.returns-then-not-are-names
-returns-then-not-are-names c w cs h =
-    both_ways _ c.if-not-are-names.true (c.are-names.ensures.1 (with_ends _ _ _ c.in-Some.ensures w cs h).1)
+pub returns-then-not-are_names : goal.returns-then-not-are_names
+returns-then-not-are_names c w cs h =
+    both_ways _ c.if-not-are_names.true (c.are_names.ensures.1 (with_ends _ _ _ c.in-Some.ensures w cs h).1)
 
 pub returns-in-err-number-2 : goal.returns-in-err-number-2
 returns-in-err-number-2 c =
@@ -18,4 +18,4 @@ returns-in-err-number-2 c =
 
 pub returns-in-ok-number-2 : goal.returns-in-ok-number-2
 returns-in-ok-number-2 c =
-    ends_with _ _ c.in-Some.children.now _ c.in-Some.ensures (c.are-names.ensures.0 c.if-not-are-names.false) c.in-ok-number-2.ensures
+    ends_with _ _ c.in-Some.children.now _ c.in-Some.ensures (c.are_names.ensures.0 c.if-not-are_names.false) c.in-ok-number-2.ensures

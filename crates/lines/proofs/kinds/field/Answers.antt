@@ -13,8 +13,8 @@ returns-in-err-steps c =
     rw c.from-residual-in-err-steps.ensures
     (field_absent _ _ _ c.requires.0 c.requires.1.0 c.requires.1.1 (λ _ n _ _ h _. c.in-err-steps.ensures n h))
 
-pub returns-then-steps-gt-MOST-STEPS : goal.returns-then-steps-gt-MOST-STEPS
-returns-then-steps-gt-MOST-STEPS c =
+pub returns-then-steps-gt-MOST_STEPS : goal.returns-then-steps-gt-MOST_STEPS
+returns-then-steps-gt-MOST_STEPS c =
     let (small, e) = c.in-ok-steps.ensures in
     field_absent _ _ _ c.requires.0 c.requires.1.0 c.requires.1.1
     (λ _ n _ _ h few. omega (arith, same_from_decimal_32 c.in-ok-steps.steps n small h.0 (sym e ∙ h.1)))

@@ -12,4 +12,4 @@ pub returns : goal.returns
 returns c =
     pair_absent _ _ c.requires.0 c.requires.1
     (λ u _ n _. c.in-default.ensures u n)
-    (λ h _ _. both_ways _ (sym c.if-is-name.ensures) h)
+    (λ h _ _. both_ways _ (sym c.if-is_name.ensures) h)

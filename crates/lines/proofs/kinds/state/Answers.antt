@@ -4,9 +4,9 @@ use Rattle.lines.specs.Recognized.{side_of}
 use Rattle.lines.proofs.Absence.{state_absent}
 use Rattle.lines.proofs.kinds.state.Goals as goal
 
-pub returns-then-not-is-name : goal.returns-then-not-is-name
-returns-then-not-is-name c =
-    state_absent (side_of c.args.side) _ _ c.requires (λ h _ _. both_ways _ (sym c.if-not-is-name.ensures) h)
+pub returns-then-not-is_name : goal.returns-then-not-is_name
+returns-then-not-is_name c =
+    state_absent (side_of c.args.side) _ _ c.requires (λ h _ _. both_ways _ (sym c.if-not-is_name.ensures) h)
 
 pub returns-in-err-weight : goal.returns-in-err-weight
 returns-in-err-weight c =

@@ -34,7 +34,7 @@ loop-i-preserved g c =
     let x = c.index-states-i.result in
     let s = session c.args.c.now in
     let ys = (side s.sides c.args.side).finals in (
-      final_more s (session c.loop-i.c) (session c.«set-final».new.self) c.args.side (i + 1) x.weight
+      final_more s (session c.loop-i.c) (session c.«set_final».new.self) c.args.side (i + 1) x.weight
           (map final_of (take i xs) ++ drop i ys) _ c.loop-i.invariant.0 c.in-Ok.ensures.does.1
           (replaced final_of xs i x c.loop-i-test.true c.index-states-i.is ys c.requires.1.1.1.0),
       c.in-Ok.ensures.field ∙ c.loop-i.invariant.1,

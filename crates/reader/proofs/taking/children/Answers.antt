@@ -8,6 +8,6 @@ loop-name-preserved c =
     let i = c.loop-name.invariant in
     let n = c.in-Some.name.now in (
       i.0 ++ (n ∷ []),
-      c.and-child-children.ensures i.0 i.1,
+      c.and_child-children.ensures i.0 i.1,
       i.2 ∙ ap (λ r. i.0 ++ r) c.in-Some.ensures.0 ∙ sym (append_assoc i.0 (n ∷ []) (parted c.in-Some.more.now)),
     )

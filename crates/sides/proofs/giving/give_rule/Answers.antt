@@ -4,8 +4,8 @@ use Rattle.rules.specs.Rules.{rule_model}
 use Rattle.sides.proofs.Tables.{grown, ruled_from, few_children}
 use Rattle.sides.proofs.giving.give_rule.Goals as goal
 
-pub rule-of-requires : goal.rule-of-requires
-rule-of-requires g c =
+pub rule_of-requires : goal.rule_of-requires
+rule_of-requires g c =
     let is = c.in-Some.ensures in
     omega (arith, few_children (ranks_of c.args.ranks.now) c.args.symbol c.requires.1 is.0, is.1, c.if-children-rank.false)
 
@@ -13,6 +13,6 @@ pub returns : goal.returns
 returns g c =
     let M = automaton_of c.args.m.now in
     let room : length M.rules < 256 = omega arith in
-    let added = grown 256 M.rules (rule_model c.rule_model.result) c.add-rule.result (automaton_of c.add-rule.new.self).rules c.add-rule.ensures.rules room in
-    let is = ruled_from M (automaton_of c.add-rule.new.self) _ c.add-rule.ensures.finals (added ∙ ap (λ r. M.rules ++ (r ∷ [])) c.rule_model.ensures) in
+    let added = grown 256 M.rules (rule_model c.rule_model.result) c.add_rule.result (automaton_of c.add_rule.new.self).rules c.add_rule.ensures.rules room in
+    let is = ruled_from M (automaton_of c.add_rule.new.self) _ c.add_rule.ensures.finals (added ∙ ap (λ r. M.rules ++ (r ∷ [])) c.rule_model.ensures) in
     record { does = (search rules, is) }

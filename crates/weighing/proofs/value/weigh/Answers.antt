@@ -10,8 +10,8 @@ use Rattle.entry_vectors.proofs.Products.{codes_push}
 use Rattle.weighing.proofs.Entries.{length_first, value_all, vectors_more}
 use Rattle.weighing.proofs.value.weigh.Goals as goal
 
-pub entry-vector-vector-requires : goal.entry-vector-vector-requires
-entry-vector-vector-requires g c =
+pub entry_vector-vector-requires : goal.entry_vector-vector-requires
+entry_vector-vector-requires g c =
     let o = ops (g.F.Field.model c.args.f.now) in
     let M = automaton_of c.args.m.now in
     let vs = vectors_of c.loop-i.vectors in
@@ -37,7 +37,7 @@ pub loop-i-preserved : goal.loop-i-preserved
 loop-i-preserved g c =
     let A = g.F.Field.model c.args.f.now in
     let M = automaton_of c.args.m.now in
-    let v = c.entry-vector-vector in
+    let v = c.entry_vector-vector in
     let old = c.loop-i.vectors in
     let new = vectors_of c.push.new.self in
     let x = c.index-entries-i in
@@ -47,8 +47,8 @@ loop-i-preserved g c =
       c.push.ensures.width ∙ c.loop-i.invariant.2,
     )
 
-pub final-sum-requires : goal.final-sum-requires
-final-sum-requires g c =
+pub final_sum-requires : goal.final_sum-requires
+final_sum-requires g c =
     let o = ops (g.F.Field.model c.args.f.now) in
     let M = automaton_of c.args.m.now in
     let vs = vectors_of c.loop-i.vectors in
@@ -62,7 +62,7 @@ pub returns : goal.returns
 returns g c =
     let A = g.F.Field.model c.args.f.now in
     let stands = c.requires.1.1.0 in
-    let sum = c.final-sum in
+    let sum = c.final_sum in
     record {
       value = value_all A (automaton_of c.args.m.now) stands.0 entry_of c.args.entries.now c.loop-i.i sum.result (vectors_of c.loop-i.vectors) c.requires.1.0 stands.1 (omega arith) c.loop-i.invariant.0 sum.ensures.value;
       below = sum.ensures.below;

@@ -9,10 +9,10 @@ use Rattle.writer.proofs.blocks.put_both_rules.Goals as goal
 
 pub returns : goal.returns
 returns c =
-    let h = c.put-bytes-headed.ensures in
+    let h = c.put_bytes-headed.ensures in
     let r = record_of c.args.d.now in
     record {
       near = omega arith;
       puts = wrote {bytes = ended (opens rules)} h.next h.put
-          then bytes_are (text_append (rule_lines r A) (rule_lines r B)) (c.put-rules-first.ensures.puts then c.put-rules.ensures.puts);
+          then bytes_are (text_append (rule_lines r A) (rule_lines r B)) (c.put_rules-first.ensures.puts then c.put_rules.ensures.puts);
     }

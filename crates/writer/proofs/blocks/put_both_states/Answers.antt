@@ -9,10 +9,10 @@ use Rattle.writer.proofs.blocks.put_both_states.Goals as goal
 
 pub returns : goal.returns
 returns c =
-    let h = c.put-bytes-headed.ensures in
+    let h = c.put_bytes-headed.ensures in
     let r = record_of c.args.d.now in
     record {
       near = omega arith;
       puts = wrote {bytes = ended (opens states)} h.next h.put
-          then bytes_are (text_append (state_lines r A) (state_lines r B)) (c.put-states-first.ensures.puts then c.put-states.ensures.puts);
+          then bytes_are (text_append (state_lines r A) (state_lines r B)) (c.put_states-first.ensures.puts then c.put_states.ensures.puts);
     }

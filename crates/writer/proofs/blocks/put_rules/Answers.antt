@@ -13,7 +13,7 @@ loop-r-init c = (omega arith, nothing _ _)
 
 pub loop-r-preserved : goal.loop-r-preserved
 loop-r-preserved c =
-    (omega arith, next_item ended (rule_line (side_of c.args.side) c.items-symbols.result.now c.items-states.result.now) _ c.loop-r.r-index _ c.loop-r-test.true c.r-item.is c.loop-r.invariant.1 c.put-rule-place.ensures.puts)
+    (omega arith, next_item ended (rule_line (side_of c.args.side) c.items-symbols.result.now c.items-states.result.now) _ c.loop-r.r-index _ c.loop-r-test.true c.r-item.is c.loop-r.invariant.1 c.put_rule-place.ensures.puts)
 
 pub returns : goal.returns
 returns c =

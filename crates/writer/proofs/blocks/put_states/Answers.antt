@@ -12,7 +12,7 @@ loop-s-init c = (omega arith, nothing _ _)
 
 pub loop-s-preserved : goal.loop-s-preserved
 loop-s-preserved c =
-    (omega arith, next_item ended (state_line (side_of c.args.side)) _ c.loop-s.s-index _ c.loop-s-test.true c.s-item.is c.loop-s.invariant.1 c.put-state-place.ensures.puts)
+    (omega arith, next_item ended (state_line (side_of c.args.side)) _ c.loop-s.s-index _ c.loop-s-test.true c.s-item.is c.loop-s.invariant.1 c.put_state-place.ensures.puts)
 
 pub returns : goal.returns
 returns c =

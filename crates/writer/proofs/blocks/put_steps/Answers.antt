@@ -8,7 +8,7 @@ loop-s-init c = (omega arith, nothing _ _)
 
 pub loop-s-preserved : goal.loop-s-preserved
 loop-s-preserved c =
-    (omega arith, next_item ended (step_line) _ c.loop-s.s-index (0, 0) c.loop-s-test.true refl c.loop-s.invariant.1 c.put-step-place.ensures.puts)
+    (omega arith, next_item ended (step_line) _ c.loop-s.s-index (0, 0) c.loop-s-test.true refl c.loop-s.invariant.1 c.put_step-place.ensures.puts)
 
 pub returns : goal.returns
 returns c = record { near = omega arith; puts = all_items ended (step_line) _ c.loop-s.s-index (omega arith) c.loop-s.invariant.1 }

@@ -11,11 +11,11 @@ loop-s-init c = (omega arith, nothing _ _)
 
 pub loop-s-preserved : goal.loop-s-preserved
 loop-s-preserved c =
-    (omega arith, next_item ended symbol_line _ c.loop-s.s-index _ c.loop-s-test.true c.s-item.is c.loop-s.invariant.1 c.put-symbol-place.ensures.puts)
+    (omega arith, next_item ended symbol_line _ c.loop-s.s-index _ c.loop-s-test.true c.s-item.is c.loop-s.invariant.1 c.put_symbol-place.ensures.puts)
 
 pub returns : goal.returns
 returns c =
-    let h = c.put-bytes-place.ensures in
+    let h = c.put_bytes-place.ensures in
     let all = lines_are (λ s. declares_symbol s.name s.rank) symbol_of _ (c.items-symbols.ensures.holds ∙ ap symbols_of c.symbols.ensures) in
     record {
       near = omega arith;

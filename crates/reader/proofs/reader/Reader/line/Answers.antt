@@ -9,8 +9,8 @@ use Rattle.reader.specs.Reads.{meaning}
 use Rattle.places.specs.Places.{place_of}
 use Rattle.reader.proofs.reader.Reader.line.Goals as goal
 
-pub returns-then-not-may-follow : goal.returns-then-not-may-follow
-returns-then-not-may-follow c =
+pub returns-then-not-may_follow : goal.returns-then-not-may_follow
+returns-then-not-may_follow c =
     let l = line_of c.in-Some.line in
     let p = c.in-Some.ensures in
     let d = meaning c.args.self.now in
@@ -18,14 +18,14 @@ returns-then-not-may-follow c =
       refl,
       λ m formed may w.
           false≢true
-          (c.if-not-may-follow.ensures.1
+          (c.if-not-may_follow.ensures.1
           (subst (λ (x : Line). MayFollow d (place_of c.args.self.now.place) x) (written_same m l formed p.0 (w ∙ sym p.1)) may)),
     )
 
 pub returns : goal.returns
 returns c =
     let p = c.in-Some.ensures in
-    let may = c.if-not-may-follow.ensures.0 refl in
+    let may = c.if-not-may_follow.ensures.0 refl in
     MatchResult-weaker c.take.result c.take.ensures
     (λ _ x. (line_of c.in-Some.line, p.0, may, p.1, x.0, x.1))
     (λ _ x. inr (line_of c.in-Some.line, p.0, may, p.1, x))

@@ -7,41 +7,41 @@ use Rattle.places.specs.Places.{place_of}
 use Rattle.reader.proofs.Places.{took, took_state, took_rule}
 use Rattle.reader.proofs.reader.Reader.take.Goals as goal
 
-pub invariant-of-self-in-Break· : goal.invariant-of-self-in-Break·
-invariant-of-self-in-Break· c =
-    (λ e. ap (λ d. d.steps) (c.in-err-name-field.ensures reading.nowhere).1 ∙ c.args.self.now.unextended e, tt)
+pub invariant_of-self-in-Break· : goal.invariant_of-self-in-Break·
+invariant_of-self-in-Break· c =
+    (λ e. ap (λ d. d.steps) (c.in-err-name_field.ensures reading.nowhere).1 ∙ c.args.self.now.unextended e, tt)
 
-pub returns-in-err-name-field : goal.returns-in-err-name-field
-returns-in-err-name-field c =
+pub returns-in-err-name_field : goal.returns-in-err-name_field
+returns-in-err-name_field c =
     let p = err_from_is_err_and c.from-residual.result c.from-residual.ensures.1 in
-    rw (p.1, p.2, c.in-Field.is) (c.in-err-name-field.ensures (place_of c.args.self.now.place)).0
+    rw (p.1, p.2, c.in-Field.is) (c.in-err-name_field.ensures (place_of c.args.self.now.place)).0
 
-pub returns-in-ok-name-field : goal.returns-in-ok-name-field
-returns-in-ok-name-field c =
-    rw c.in-Field.is (c.in-ok-name-field.ensures (place_of c.args.self.now.place))
+pub returns-in-ok-name_field : goal.returns-in-ok-name_field
+returns-in-ok-name_field c =
+    rw c.in-Field.is (c.in-ok-name_field.ensures (place_of c.args.self.now.place))
 
 pub returns-in-Step : goal.returns-in-Step
 returns-in-Step c =
     rw c.in-Step.is
-    (took c.args.self.now.draft c.extend-by.new.self (place_of c.args.self.now.place) c.extend-by.result
-    (extends_by c.in-Step.u c.in-Step.v) refl c.extend-by.ensures)
+    (took c.args.self.now.draft c.extend_by.new.self (place_of c.args.self.now.place) c.extend_by.result
+    (extends_by c.in-Step.u c.in-Step.v) refl c.extend_by.ensures)
 
 pub returns-in-Symbol : goal.returns-in-Symbol
 returns-in-Symbol c =
     rw c.in-Symbol.is
-    (took c.args.self.now.draft c.declare-symbol.new.self (place_of c.args.self.now.place) c.declare-symbol.result
-    (declares_symbol c.in-Symbol.name.now c.in-Symbol.rank) refl c.declare-symbol.ensures)
+    (took c.args.self.now.draft c.declare_symbol.new.self (place_of c.args.self.now.place) c.declare_symbol.result
+    (declares_symbol c.in-Symbol.name.now c.in-Symbol.rank) refl c.declare_symbol.ensures)
 
 pub returns-in-State : goal.returns-in-State
 returns-in-State c =
     rw c.in-State.is
-    (took_state c.args.self.now.draft c.declare-state.new.self (place_of c.args.self.now.place) c.declare-state.result
-    c.in-State.side c.in-State.name.now c.in-State.weight c.declare-state.ensures)
+    (took_state c.args.self.now.draft c.declare_state.new.self (place_of c.args.self.now.place) c.declare_state.result
+    c.in-State.side c.in-State.name.now c.in-State.weight c.declare_state.ensures)
 
 pub returns-in-Rule : goal.returns-in-Rule
 returns-in-Rule c =
     let cs = parted c.in-Rule.names.now in
     rw c.in-Rule.is
-    (took_rule c.args.self.now.draft c.give-rule.new.self (place_of c.args.self.now.place) c.give-rule.result
+    (took_rule c.args.self.now.draft c.give_rule.new.self (place_of c.args.self.now.place) c.give_rule.result
     c.in-Rule.side c.in-Rule.symbol.now c.in-Rule.target.now c.in-Rule.weight cs
-    (c.give-rule.ensures cs c.children-children.ensures))
+    (c.give_rule.ensures cs c.children-children.ensures))

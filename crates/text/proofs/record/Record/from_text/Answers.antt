@@ -8,8 +8,8 @@ returns-in-err-draft c =
     let p = err_from_is_err_and c.from-residual.result c.from-residual.ensures.1 in
     rw (p.1, p.2) (refused c.args.text.now _ c.in-err-draft.ensures)
 
-pub invariant-of-result : goal.invariant-of-result
-invariant-of-result c = (∣ valid c.args.text.now (record_of c.in-ok-draft.draft) c.in-ok-draft.ensures ∣₁, tt)
+pub invariant_of-result : goal.invariant_of-result
+invariant_of-result c = (∣ valid c.args.text.now (record_of c.in-ok-draft.draft) c.in-ok-draft.ensures ∣₁, tt)
 
 pub returns : goal.returns
 returns c = stands_for c.args.text.now (record_of c.in-ok-draft.draft) c.in-ok-draft.ensures

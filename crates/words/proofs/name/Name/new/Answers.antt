@@ -2,10 +2,10 @@ use Rattle.std.proofs.Common.{sym, refl}
 use Rattle.words.proofs.Names.{named, padded_length, padded_front, padded_name, padded_rest}
 use Rattle.words.proofs.name.Name.new.Goals as goal
 
-pub invariant-of-result : goal.invariant-of-result
-invariant-of-result c =
-    let e = c.copy-from-slice.ensures.after in
-    let n = sym c.if-not-is-name.ensures in
+pub invariant_of-result : goal.invariant_of-result
+invariant_of-result c =
+    let e = c.copy_from_slice.ensures.after in
+    let n = sym c.if-not-is_name.ensures in
     (padded_length _ _ _ e n refl, ((named _ n).short, (padded_name _ _ _ e n, (padded_rest _ _ _ e n refl, tt))))
 
 pub returns : goal.returns
