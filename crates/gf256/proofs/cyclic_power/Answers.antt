@@ -10,5 +10,5 @@ returns c =
             | then-n-lt255 w ↦ cc (c.power.ensures, w.i-is)
             | else-n-lt255 w ↦ cc (c.power.ensures, w.i-is, three_again c.args.n w.if-n-lt255.false)
           ];
-      below = c.power.type-inv;
+      below = c.power.type_inv;
     }

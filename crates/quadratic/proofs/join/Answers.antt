@@ -2,8 +2,8 @@ use Rattle.std.proofs.Common.{arith, rules}
 use Rattle.extension.proofs.Digits.{encode_below, square_fits}
 use Rattle.quadratic.proofs.join.Goals as goal
 
-pub overflow-add-result : goal.overflow-add-result
-overflow-add-result c =
+pub overflow_add-result : goal.overflow_add-result
+overflow_add-result c =
     let b = encode_below c.args.q c.args.a c.args.b (search rules) (search rules) in
     let f = square_fits c.args.q (search rules) in search rules
 

@@ -29,7 +29,7 @@ returns-in-default g c =
 pub invariant_of-push : goal.invariant_of-push
 invariant_of-push g c =
     let long = ap length c.copy_from_slice.ensures.after in
-    (simp (length-append, length-drop) (omega (arith, long, c.requires.fits.3.0, c.requires.fits.2.width)), tt)
+    record { room = simp (length-append, length-drop) (omega (arith, long, c.requires.fits.3.0, c.requires.fits.2.width)) }
 
 pub push-requires : goal.push-requires
 push-requires g c =

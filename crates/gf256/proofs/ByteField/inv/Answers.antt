@@ -13,12 +13,12 @@ returns-in-err-i c =
 
 pub returns : goal.returns
 returns c =
-    let is = c.in-ok-i.ensures in
+    let is = c.in_ok-i.ensures in
     let r = c.cyclic_power.ensures in
     record {
       value =
           sym
           (inverse_is gf256 ring (lit≤ tt) c.args.a c.cyclic_power.result c.requires.1 r.below
-          (ap (times c.args.a) r.value ∙ power_inverse c.args.a c.in-ok-i.i is.2 is.1));
+          (ap (times c.args.a) r.value ∙ power_inverse c.args.a c.in_ok-i.i is.2 is.1));
       below = r.below;
     }

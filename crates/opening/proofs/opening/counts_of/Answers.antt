@@ -7,15 +7,15 @@ use Rattle.opening.proofs.Opened.{same_length}
 use Rattle.opening.proofs.Records.{ready}
 use Rattle.opening.proofs.opening.counts_of.Goals as goal
 
-pub overflow-cast-a : goal.overflow-cast-a
-overflow-cast-a c =
+pub overflow_cast-a : goal.overflow_cast-a
+overflow_cast-a c =
     let r = ready c.args.source.now in
     let few : length c.states-a.result.now ≤ 12 =
     omega (arith, same_length state_of c.states-a.result.now _ c.states-a.ensures, r.a.few) in
     search rules
 
-pub overflow-cast-b : goal.overflow-cast-b
-overflow-cast-b c =
+pub overflow_cast-b : goal.overflow_cast-b
+overflow_cast-b c =
     let r = ready c.args.source.now in
     let few : length c.states-b.result.now ≤ 12 =
     omega (arith, same_length state_of c.states-b.result.now _ c.states-b.ensures, r.b.few) in

@@ -13,8 +13,8 @@ returns-in-Some g c =
     let of : c.norm.result ≡ norm (ops B) p.u p.v (decode B.size c.args.x) =
     c.norm.ensures.value ∙ ap (norm (ops B) p.u p.v) parts in
     let i = inverse_divided B L p.u p.v c.requires.0.extends c.args.x c.requires.1 (Some c.in-Some.i) (ap (inverse B) (sym of) ∙ sym c.in-Some.ensures.value) in
-    let r = c.conjugate_product.ensures.value ∙ ap (λ y. conjugate_product B p.u y c.in-Some.i) parts in
-    record { value = ap Some r ∙ sym i; below = c.conjugate_product.ensures.below }
+    let r = c.conjugate_times.ensures.value ∙ ap (λ y. conjugate_product B p.u y c.in-Some.i) parts in
+    record { value = ap Some r ∙ sym i; below = c.conjugate_times.ensures.below }
 
 pub returns-in-None : goal.returns-in-None
 returns-in-None g c =

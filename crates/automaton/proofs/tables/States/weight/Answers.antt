@@ -3,8 +3,8 @@ use Rattle.rules.proofs.Fronts.{front_at, front_length}
 use Rattle.automaton.specs.Tables.{final_of}
 use Rattle.automaton.proofs.tables.States.weight.Goals as goal
 
-pub offset-bounds-self-at : goal.offset-bounds-self-at
-offset-bounds-self-at c =
+pub offset_bounds-self-at : goal.offset_bounds-self-at
+offset_bounds-self-at c =
     let t = c.args.self.now in
     let l = front_length final_of t.entries t.count (omega arith) in
     omega arith
