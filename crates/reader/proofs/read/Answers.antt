@@ -49,7 +49,7 @@ returns-then-rest-gt0 c =
     let line = c.loop-bytes.line in
     let h : 1 ≤ line = c.loop-bytes.invariant.1 in
     fault_at text 102 line h
-    (so_far_stops text rest d (line - 1) c.if-text-gt-LONGEST.false c.loop-bytes.invariant.0 c.in-default.ensures
+    (so_far_stops text rest d (line - 1) c.if-text-gt-LONGEST.false c.loop-bytes.invariant.0 c.in_default.ensures
     (elim c.then-rest-gt0.branch [
       | then-rest-gt0-via-then-rest-gt0 w ↦ λ e _. let z = ap length e in omega (arith, w.if-rest-gt0.true)
       | then-rest-gt0-via-else-rest-gt0+then-not-is_end w ↦ λ _ k. false≢true (w.if-not-is_end.ensures.1 k)

@@ -4,9 +4,9 @@ use Rattle.report.proofs.written.Goals as goal
 
 pub returns : goal.returns
 returns c =
-    let made = c.in-ok-page.ensures.len in
+    let made = c.in_ok-page.ensures.len in
     let e = made ∙ c.requires in
     let k = c.write.auto.out in
     let l = c.deref-mut.ensures.len in
-    filled _ c.deref-mut.result.now c.write.new.out _ c.write.result c.in-ok-page.page.len e (omega arith)
+    filled _ c.deref-mut.result.now c.write.new.out _ c.write.result c.in_ok-page.page.len e (omega arith)
     (omega arith) c.write.ensures

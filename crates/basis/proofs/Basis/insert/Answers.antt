@@ -20,11 +20,11 @@ reduce-requires g c =
       narrow = omega (arith, long, fits.3.0, fits.2.width);
     }
 
-pub returns-in-default : goal.returns-in-default
-returns-in-default g c =
+pub returns-in_default : goal.returns-in_default
+returns-in_default g c =
     left_out (g.F.Field.model c.args.f.now) (g.met.F.Field.laws c.args.f.now c.requires.field) c.args.self.now
     c.args.vector.now c.copy_from_slice.new.self c.reduce.new.v c.copy_from_slice.ensures.after
-    c.reduce.ensures.value c.in-default.ensures.0
+    c.reduce.ensures.value c.in_default.ensures.0
 
 pub invariant_of-push : goal.invariant_of-push
 invariant_of-push g c =

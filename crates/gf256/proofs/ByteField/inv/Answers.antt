@@ -4,11 +4,11 @@ use Rattle.polynomials.specs.Polynomials.{times, gf256}
 use Rattle.polynomials.proofs.Laws.{ring, field, power_inverse}
 use Rattle.gf256.proofs.ByteField.inv.Goals as goal
 
-pub returns-in-err-i : goal.returns-in-err-i
-returns-in-err-i c =
+pub returns-in_err-i : goal.returns-in_err-i
+returns-in_err-i c =
     record {
-      value = cc (c.from-residual.ensures, c.in-err-i.ensures, field.inverse_zero);
-      below = subst (λ r. IfSome r (λ b. b < 256)) (sym c.from-residual.ensures) tt;
+      value = cc (c.from_residual.ensures, c.in_err-i.ensures, field.inverse_zero);
+      below = subst (λ r. IfSome r (λ b. b < 256)) (sym c.from_residual.ensures) tt;
     }
 
 pub returns : goal.returns

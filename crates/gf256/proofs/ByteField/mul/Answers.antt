@@ -4,12 +4,12 @@ use Rattle.polynomials.proofs.Product.{zero_times, times_zero}
 use Rattle.polynomials.proofs.Laws.{three_sum}
 use Rattle.gf256.proofs.ByteField.mul.Goals as goal
 
-pub returns-in-default : goal.returns-in-default
-returns-in-default c = record { value = cc (c.in-default.ensures, zero_times c.args.b); below = lit< tt }
+pub returns-in_default : goal.returns-in_default
+returns-in_default c = record { value = cc (c.in_default.ensures, zero_times c.args.b); below = lit< tt }
 
-pub returns-in-default-logarithm : goal.returns-in-default-logarithm
-returns-in-default-logarithm c =
-    record { value = cc (c.in-default-logarithm.ensures, times_zero c.args.a); below = lit< tt }
+pub returns-in_default-logarithm : goal.returns-in_default-logarithm
+returns-in_default-logarithm c =
+    record { value = cc (c.in_default-logarithm.ensures, times_zero c.args.a); below = lit< tt }
 
 pub returns : goal.returns
 returns c =

@@ -15,4 +15,4 @@ loop-name-preserved c =
 
 pub returns : goal.returns
 returns c =
-    names_tell _ _ (sym c.loop-name.invariant ∙ names_last _ c.in-default.ensures ∙ sym c.is_name-2.ensures)
+    names_tell _ _ (sym c.loop-name.invariant ∙ names_last _ c.in_default.ensures ∙ sym c.is_name-2.ensures)

@@ -3,18 +3,18 @@ use Rattle.words.proofs.Numbers.{same_from_decimal_32}
 use Rattle.lines.proofs.Absence.{field_absent}
 use Rattle.lines.proofs.kinds.field.Goals as goal
 
-pub returns-in-err-kind : goal.returns-in-err-kind
-returns-in-err-kind c =
-    rw c.from-residual.ensures
-    (field_absent _ _ _ c.requires.0 c.requires.1.0 c.requires.1.1 (λ k _ fits e _ _. c.in-err-kind.ensures k fits e))
+pub returns-in_err-kind : goal.returns-in_err-kind
+returns-in_err-kind c =
+    rw c.from_residual.ensures
+    (field_absent _ _ _ c.requires.0 c.requires.1.0 c.requires.1.1 (λ k _ fits e _ _. c.in_err-kind.ensures k fits e))
 
-pub returns-in-err-steps : goal.returns-in-err-steps
-returns-in-err-steps c =
-    rw c.from-residual-in-err-steps.ensures
-    (field_absent _ _ _ c.requires.0 c.requires.1.0 c.requires.1.1 (λ _ n _ _ h _. c.in-err-steps.ensures n h))
+pub returns-in_err-steps : goal.returns-in_err-steps
+returns-in_err-steps c =
+    rw c.from_residual-in_err-steps.ensures
+    (field_absent _ _ _ c.requires.0 c.requires.1.0 c.requires.1.1 (λ _ n _ _ h _. c.in_err-steps.ensures n h))
 
 pub returns-then-steps-gt-MOST_STEPS : goal.returns-then-steps-gt-MOST_STEPS
 returns-then-steps-gt-MOST_STEPS c =
-    let (small, e) = c.in-ok-steps.ensures in
+    let (small, e) = c.in_ok-steps.ensures in
     field_absent _ _ _ c.requires.0 c.requires.1.0 c.requires.1.1
-    (λ _ n _ _ h few. omega (arith, same_from_decimal_32 c.in-ok-steps.steps n small h.0 (sym e ∙ h.1)))
+    (λ _ n _ _ h few. omega (arith, same_from_decimal_32 c.in_ok-steps.steps n small h.0 (sym e ∙ h.1)))

@@ -13,6 +13,6 @@ pub returns : goal.returns
 returns g c =
     let M = automaton_of c.args.m.now in
     let room : length M.rules < 256 = omega arith in
-    let added = grown 256 M.rules (rule_model c.rule_model.result) c.add_rule.result (automaton_of c.add_rule.new.self).rules c.add_rule.ensures.rules room in
-    let is = ruled_from M (automaton_of c.add_rule.new.self) _ c.add_rule.ensures.finals (added ∙ ap (λ r. M.rules ++ (r ∷ [])) c.rule_model.ensures) in
+    let added = grown 256 M.rules (rule_model c.rule_of.result) c.add_rule.result (automaton_of c.add_rule.new.self).rules c.add_rule.ensures.rules room in
+    let is = ruled_from M (automaton_of c.add_rule.new.self) _ c.add_rule.ensures.finals (added ∙ ap (λ r. M.rules ++ (r ∷ [])) c.rule_of.ensures) in
     record { does = (search rules, is) }

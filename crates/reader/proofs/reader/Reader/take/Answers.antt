@@ -9,16 +9,16 @@ use Rattle.reader.proofs.reader.Reader.take.Goals as goal
 
 pub invariant_of-self-in-Break· : goal.invariant_of-self-in-Break·
 invariant_of-self-in-Break· c =
-    (λ e. ap (λ d. d.steps) (c.in-err-name_field.ensures reading.nowhere).1 ∙ c.args.self.now.unextended e, tt)
+    (λ e. ap (λ d. d.steps) (c.in_err-name_field.ensures reading.nowhere).1 ∙ c.args.self.now.unextended e, tt)
 
-pub returns-in-err-name_field : goal.returns-in-err-name_field
-returns-in-err-name_field c =
+pub returns-in_err-name_field : goal.returns-in_err-name_field
+returns-in_err-name_field c =
     let p = err_from_is_err_and c.from-residual.result c.from-residual.ensures.1 in
-    rw (p.1, p.2, c.in-Field.is) (c.in-err-name_field.ensures (place_of c.args.self.now.place)).0
+    rw (p.1, p.2, c.in-Field.is) (c.in_err-name_field.ensures (place_of c.args.self.now.place)).0
 
-pub returns-in-ok-name_field : goal.returns-in-ok-name_field
-returns-in-ok-name_field c =
-    rw c.in-Field.is (c.in-ok-name_field.ensures (place_of c.args.self.now.place))
+pub returns-in_ok-name_field : goal.returns-in_ok-name_field
+returns-in_ok-name_field c =
+    rw c.in-Field.is (c.in_ok-name_field.ensures (place_of c.args.self.now.place))
 
 pub returns-in-Step : goal.returns-in-Step
 returns-in-Step c =

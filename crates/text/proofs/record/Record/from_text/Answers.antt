@@ -3,13 +3,13 @@ use Rattle.drafts.specs.Drafts.{record_of}
 use Rattle.text.proofs.Standing.{refused, stands_for, valid}
 use Rattle.text.proofs.record.Record.from_text.Goals as goal
 
-pub returns-in-err-draft : goal.returns-in-err-draft
-returns-in-err-draft c =
+pub returns-in_err-draft : goal.returns-in_err-draft
+returns-in_err-draft c =
     let p = err_from_is_err_and c.from-residual.result c.from-residual.ensures.1 in
-    rw (p.1, p.2) (refused c.args.text.now _ c.in-err-draft.ensures)
+    rw (p.1, p.2) (refused c.args.text.now _ c.in_err-draft.ensures)
 
 pub invariant_of-result : goal.invariant_of-result
-invariant_of-result c = (∣ valid c.args.text.now (record_of c.in-ok-draft.draft) c.in-ok-draft.ensures ∣₁, tt)
+invariant_of-result c = (∣ valid c.args.text.now (record_of c.in_ok-draft.draft) c.in_ok-draft.ensures ∣₁, tt)
 
 pub returns : goal.returns
-returns c = stands_for c.args.text.now (record_of c.in-ok-draft.draft) c.in-ok-draft.ensures
+returns c = stands_for c.args.text.now (record_of c.in_ok-draft.draft) c.in_ok-draft.ensures

@@ -11,9 +11,9 @@ front n out text e = let z : n ≡ n - 0 = omega arith in sym e ∙ ap (λ k. ta
 pub unreachable-requires : goal.unreachable-requires
 unreachable-requires c =
     ∥∥₁_elim c.args.self.now.valid ⊥_prop
-    (λ v. c.in-Err.ensures.no_record _ v (front c.in-ok-n.n c.write.new.out _ c.in-ok-n.ensures.front))
+    (λ v. c.in-Err.ensures.no_record _ v (front c.in_ok-n.n c.write.new.out _ c.in_ok-n.ensures.front))
 
 pub returns : goal.returns
 returns c =
     ∥∥₁_elim c.args.self.now.valid (record_set _ _)
-    (λ v. sym (c.in-Ok.ensures.alone _ v (front c.in-ok-n.n c.write.new.out _ c.in-ok-n.ensures.front)))
+    (λ v. sym (c.in-Ok.ensures.alone _ v (front c.in_ok-n.n c.write.new.out _ c.in_ok-n.ensures.front)))
