@@ -1,10 +1,10 @@
 -- A loop over the places of a vector that writes each place anew. Assumes nothing.
-use Rattle.std.proofs.Common.{◌≡◌, ℕ, zero, suc, ◌+◌, ◌<◌, ◌≤◌, List, [], ◌∷◌, map, length, get_or, set, sym, refl, ap, ◌∙◌, ⊎_elim, arith}
+use Rattle.std.proofs.Common.{◌≡◌, ℕ, ◌+◌, ◌<◌, ◌≤◌, List, map, length, get_or, set, refl, ap, ◌∙◌, arith}
 use Rattle.std.specs.List.{AllByRecursion as All, range_with_len}
-use Rattle.std.proofs.lemmas.List.{get_or-set_other, get_or_past}
+use Rattle.std.proofs.lemmas.List.{get_or-set_other}
 use Rattle.std.proofs.lemmas.List.FromFn.{fill_by_all}
 use Rattle.std.proofs.lemmas.List.Edits.{fill_by_more}
-use Rattle.std.proofs.ByRecursion.{All-get_or, All-set}
+use Rattle.std.proofs.ByRecursion.{All-set}
 
 -- the first i places of v are as F says, the others as they were before, and all are codes below q
 abbrev pub Rewritten : ℕ → (ℕ → ℕ) → List ℕ → List ℕ → ℕ → Type 0

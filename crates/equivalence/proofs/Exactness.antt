@@ -1,9 +1,9 @@
 -- The theorems: an exploration that ends with equal has reached the vectors of all trees, and one that ends with differs
 -- those of all lower trees. Assumes nothing.
-use Rattle.std.proofs.Common.{◌≡◌, ℕ, zero, suc, ◌+◌, ◌-◌, ◌<◌, ◌≤◌, max, Bool, true, false, leb, ◌⊎◌, List, [], ◌∷◌, ◌++◌, map, length, get_or, take, filter, sym, refl, ap, ◌∙◌, subst, ap₂, subst₂, inl, inr, ⊎_elim, le_refl, arith, length-append}
+use Rattle.std.proofs.Common.{◌≡◌, ℕ, zero, suc, ◌<◌, ◌≤◌, leb, List, [], ◌∷◌, ◌++◌, map, length, get_or, take, filter, sym, refl, ap, ◌∙◌, subst, ap₂, subst₂, ⊎_elim, le_refl, arith, length-append}
 use lib.ListN.{length-map}
 use Rattle.std.specs.List.{ContainsAt as Has, AllByRecursion as All}
-use Rattle.std.proofs.lemmas.List.{length_push, get_or_append_left, get_or_push, map_push, take-append-le, take_at, get_or-map}
+use Rattle.std.proofs.lemmas.List.{length_push, get_or_append_left, get_or_push, map_push, take-append-le, take_at}
 use Rattle.std.proofs.ByRecursion.{All-map, All-weaker, All-get_or, All-from_get_or, all-has, has_append_left, has_push}
 use Rattle.std.proofs.lemmas.Bool.{cases_lt, cases_eq, le-leb, leb-true}
 use Rattle.field.specs.Algebra.{Algebra, Lawful, ops}
@@ -12,13 +12,13 @@ use Rattle.field.proofs.Codes.{Code, code_path, elements, elements_ring, element
 use Rattle.equivalence.specs.Trees.{Tree, Forest, node, bare, more, rank, Declared, Over, AllOver, width, height, highest}
 use Rattle.equivalence.specs.Automata.{Sides, Sound, value, dimension}
 use Rattle.equivalence.specs.Entries.{named, last_of}
-use Rattle.equivalence.specs.Tries.{Try, turns, all_tries}
-use Rattle.equivalence.specs.Exploration.{built, Differ, Depends, Left, next, EndedDiffers, EndedEqual, Goes_on, Tried, Explored, Equivalent}
-use Rattle.equivalence.specs.Theorems.{Reached, LowestDifference, Bounds, EqualIsExact, DiffersIsExactAndLowest, VerdictIsExact, AlwaysBounded}
+use Rattle.equivalence.specs.Tries.{Try, turns}
+use Rattle.equivalence.specs.Exploration.{built, Differ, Depends, next, EndedDiffers, EndedEqual, Goes_on, Explored, Equivalent}
+use Rattle.equivalence.specs.Theorems.{LowestDifference, Bounds, EqualIsExact, DiffersIsExactAndLowest, VerdictIsExact, AlwaysBounded}
 use Rattle.equivalence.proofs.Kept.{tall, Rising, named_more}
 use Rattle.equivalence.proofs.Members.{all_from_has, has_kept_by, kept_by_has, has_map, map_has}
 use Rattle.equivalence.proofs.Order.{Within, Placed, placed, turns_stay, turns_length, all_tries_mono, taken}
-use Rattle.equivalence.proofs.Progress.{Grown, Next, next_grown, next_highest, grown_none, grown_same, grown_kept}
+use Rattle.equivalence.proofs.Progress.{Grown, next_grown, next_highest, grown_none, grown_same, grown_kept}
 use Rattle.equivalence.proofs.Space.{Vector, Spanned}
 use Rattle.equivalence.proofs.Spans.{spanned_member, spanned_trans, functionals_agree, spanned_rows, independent_few}
 use Rattle.equivalence.proofs.Values.{Bounded, children, place, above, above_linear, place_node, value_a, value_b, value_a_functional, value_b_functional, value_a_is, value_b_is, place_past, lifted, lifted_a_bounded, lifted_b_bounded, lifted_dimension, lifted_value_a, lifted_value_b, depends_spanned, spanned_depends}

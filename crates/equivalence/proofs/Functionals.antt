@@ -1,5 +1,5 @@
 -- Functionals are closed under what the ring builds from them. Assumes nothing.
-use Rattle.std.proofs.Common.{◌≡◌, ℕ, zero, suc, List, [], ◌∷◌, ◌++◌, map, get_or, sym, refl, ap, ◌∙◌, subst, ap₂}
+use Rattle.std.proofs.Common.{ℕ, zero, suc, List, [], ◌∷◌, ◌++◌, map, get_or, sym, ap, ◌∙◌, subst, ap₂}
 use mathlib.Core.Path.{fun_ext}
 use mathlib.Core.List.{map-map}
 use Rattle.field.specs.Ops.{Ops, Ring, total, dot}

@@ -1,10 +1,10 @@
 -- Kept trees and the rows of their numbers: heights, and what a row names. Assumes nothing.
-use Rattle.std.proofs.Common.{◌≡◌, ℕ, zero, suc, ◌+◌, ◌-◌, ◌<◌, ◌≤◌, max, Bool, true, false, ◌||◌, eqb, ◌⊎◌, List, [], ◌∷◌, ◌++◌, map, length, get_or, sym, refl, ap, ◌∙◌, subst, ap₂, inl, inr, ⊎_elim, le_of_eq, add-one, arith}
+use Rattle.std.proofs.Common.{◌≡◌, ℕ, zero, suc, ◌<◌, ◌≤◌, true, eqb, List, [], ◌∷◌, ◌++◌, length, get_or, refl, ap, ◌∙◌, ap₂, ⊎_elim, le_of_eq, add-one, arith}
 use Rattle.std.specs.List.{AllByRecursion as All}
 use Rattle.std.proofs.lemmas.List.{get_or_append_left, get_or_push, length_push}
 use Rattle.std.proofs.ByRecursion.{All-get_or}
 use Rattle.std.proofs.lemmas.Bool.{or_cases, eqb-true, false≢true, cases_lt}
-use Rattle.equivalence.specs.Trees.{Tree, Forest, node, bare, more, Over, AllOver, width, height, highest}
+use Rattle.equivalence.specs.Trees.{Tree, node, bare, more, Over, AllOver, width, height, highest}
 use Rattle.equivalence.specs.Entries.{named}
 use Rattle.equivalence.specs.Tries.{occurs}
 use Rattle.equivalence.proofs.Order.{Within}

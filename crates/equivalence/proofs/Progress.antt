@@ -1,17 +1,14 @@
 -- What every exploration keeps true of its kept trees, in the order of its tries. Assumes nothing.
-use Rattle.std.proofs.Common.{◌≡◌, ℕ, zero, suc, ◌+◌, ◌-◌, ◌<◌, ◌≤◌, max, Bool, true, false, ◌⊎◌, List, [], ◌∷◌, ◌++◌, map, length, get_or, sym, refl, ap, ◌∙◌, subst, ap₂, inl, inr, ⊎_elim, add-one, arith, length-append}
+use Rattle.std.proofs.Common.{◌≡◌, ℕ, suc, ◌<◌, ◌≤◌, List, [], ◌∷◌, ◌++◌, length, ap, ◌∙◌, ⊎_elim, add-one, arith, length-append}
 use Rattle.std.specs.List.{AllByRecursion as All}
 use Rattle.std.proofs.lemmas.List.{length_push}
-use Rattle.std.proofs.ByRecursion.{All-get_or, All-push, All-weaker}
+use Rattle.std.proofs.ByRecursion.{All-push, All-weaker}
 use Rattle.std.proofs.lemmas.Bool.{cases_lt}
-use Rattle.field.specs.Algebra.{Algebra}
-use Rattle.equivalence.specs.Trees.{Tree, node, bare, Over, height, highest}
-use Rattle.equivalence.specs.Automata.{Sides}
-use Rattle.equivalence.specs.Entries.{named}
-use Rattle.equivalence.specs.Tries.{Try, turns}
-use Rattle.equivalence.specs.Exploration.{built, Left, next, Explored}
-use Rattle.equivalence.proofs.Kept.{tall, Rising, named_more, tall_more, tall_last, named_width, named_over, named_high, rising_none, rising_push}
-use Rattle.equivalence.proofs.Order.{Within, Placed, placed, turns_stay}
+use Rattle.equivalence.specs.Trees.{Tree, Over, height}
+use Rattle.equivalence.specs.Tries.{turns}
+use Rattle.equivalence.specs.Exploration.{built, Left, next}
+use Rattle.equivalence.proofs.Kept.{tall, Rising, tall_more, tall_last, named_width, named_over, named_high, rising_none, rising_push}
+use Rattle.equivalence.proofs.Order.{Within, Placed, placed}
 
 module _ (ranks : List ℕ) where
   -- Of n tries that led to the kept trees: there were so many tries, the kept trees are trees over the symbols, in rising

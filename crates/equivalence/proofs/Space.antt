@@ -1,5 +1,5 @@
 -- Vectors as functions of the place, their sums of multiples, and linear maps. Definitions; assumes nothing.
-use Rattle.std.proofs.Common.{◌≡◌, ℕ, List, [], ◌∷◌, ◌++◌, map, length}
+use Rattle.std.proofs.Common.{◌≡◌, ℕ, List, ◌∷◌, ◌++◌, map, length}
 use Rattle.field.specs.Ops.{Ops, dot}
 
 abbrev pub Vector : Type 0 → Type 0

@@ -5,11 +5,11 @@ use Rattle.std.specs.List.{AllByRecursion as All}
 use Rattle.std.proofs.lemmas.List.{get_or-map, map_push, length_push}
 use Rattle.std.proofs.ByRecursion.{All-append, All-weaker}
 use Rattle.field.specs.Ops.{Ops, dot}
-use Rattle.field.specs.Algebra.{Algebra, ops}
+use Rattle.field.specs.Algebra.{ops}
 use Rattle.equivalence.specs.Trees.{Tree, node, bare, rank}
 use Rattle.equivalence.specs.Automata.{Automaton, Sound, states, along, vector, value, numbers}
 use Rattle.equivalence.specs.Entries.{Entry, Laid_out, LaidOutFrom, WellFormed, named, grown, trees, last_of, tree_of}
-use Rattle.equivalence.specs.Theorems.{Valued, ValuesOfEntries}
+use Rattle.equivalence.specs.Theorems.{ValuesOfEntries}
 use Rattle.equivalence.specs.Valuing.{through, entry_vector, vectors_from, vectors_of, last_or, value_of}
 use Rattle.equivalence.proofs.Values.{Bounded, State, getD_vector, element_by}
 

@@ -1,5 +1,5 @@
 -- Multiplicity tree automata and the tree series that they recognize, over any commutative ring's operations.
-use Rattle.std.specs.Prelude.{◌≡◌, ℕ, zero, suc, ◌+◌, ◌<◌, ◌≤◌, Bool, ◌&&◌, List, [], ◌∷◌, ◌++◌, map, length, filter, ◌==◌}
+use Rattle.std.specs.Prelude.{ℕ, zero, suc, ◌+◌, ◌<◌, ◌≤◌, ◌&&◌, List, [], ◌∷◌, ◌++◌, map, length, filter, ◌==◌}
 use Rattle.std.specs.List.{AllByRecursion as All}
 use Rattle.field.specs.Ops.{Ops, total, dot}
 use Rattle.equivalence.specs.Trees.{Tree, Forest, node, bare, more}

@@ -1,5 +1,5 @@
 -- A tree as a list of entries, numbered from 1: each is a symbol over earlier entries, and the last is the root.
-use Rattle.std.specs.Prelude.{◌≡◌, ℕ, zero, suc, ◌<◌, ◌≤◌, List, [], ◌∷◌, ◌++◌, length, take, drop, slice_index_or}
+use Rattle.std.specs.Prelude.{◌≡◌, ℕ, zero, suc, ◌≤◌, List, [], ◌∷◌, ◌++◌, length, take, drop, slice_index_or}
 use Rattle.std.specs.List.{AllByRecursion as All}
 use Rattle.equivalence.specs.Trees.{Tree, Forest, node, bare, more, rank, Declared}
 

@@ -1,8 +1,8 @@
 -- The exploration of the reachable vectors: which tries it makes, which trees it keeps, and how it ends.
 use Rattle.std.specs.Prelude.{◌≡◌, ℕ, zero, suc, ◌<◌, ◌≤◌, ◌⊎◌, List, [], ◌∷◌, ◌++◌, map, length, slice_index_or}
 use Rattle.field.specs.Algebra.{Algebra, ops}
-use Rattle.equivalence.specs.Trees.{Tree, node, bare, Over, height}
-use Rattle.equivalence.specs.Automata.{Automaton, Sides, Sound, states, value, joined_vector, dimension}
+use Rattle.equivalence.specs.Trees.{Tree, node, Over}
+use Rattle.equivalence.specs.Automata.{Sides, value, joined_vector, dimension}
 use Rattle.equivalence.specs.Entries.{named, last_of}
 use Rattle.equivalence.specs.Spans.{SumOfMultiples}
 use Rattle.equivalence.specs.Tries.{Try, turns}

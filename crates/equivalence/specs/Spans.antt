@@ -1,5 +1,5 @@
 -- Sums of multiples of vectors. A vector is a list of elements, and all have the same length.
-use Rattle.std.specs.Prelude.{◌≡◌, ℕ, ◌<◌, List, [], ◌∷◌, map, length, slice_index}
+use Rattle.std.specs.Prelude.{◌≡◌, ℕ, ◌<◌, List, map, length, slice_index}
 use Rattle.std.specs.List.{AllByRecursion as All}
 use Rattle.field.specs.Algebra.{Algebra, ops}
 use Rattle.field.specs.Ops.{dot}

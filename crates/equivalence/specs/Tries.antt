@@ -1,5 +1,5 @@
 -- The order of tries. A try is a symbol over a row of numbers of kept trees.
-use Rattle.std.specs.Prelude.{ℕ, zero, suc, ◌+◌, ◌^◌, Bool, true, false, cond, ◌||◌, List, [], ◌∷◌, ◌++◌, map, length, filter, ◌==◌}
+use Rattle.std.specs.Prelude.{ℕ, zero, suc, ◌+◌, ◌^◌, Bool, false, ◌||◌, List, [], ◌∷◌, ◌++◌, map, length, filter, ◌==◌}
 use Rattle.std.specs.List.{flat_map}
 use Rattle.equivalence.specs.Trees.{rank}
 use Rattle.equivalence.specs.Automata.{numbers}

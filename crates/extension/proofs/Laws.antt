@@ -1,8 +1,8 @@
 -- The extension on codes: it keeps the laws of a field, and the norm gives its inverse. Assumes nothing.
-use Rattle.std.proofs.Common.{◌≡◌, ℕ, ◌+◌, ◌*◌, ◌<◌, ◌≤◌, true, not, eqb, ◌⊎◌, is_some, Some, None, Option, sym, refl, ap, ◌∙◌, subst, ap₂, inl, inr, ⊎_elim, arith}
+use Rattle.std.proofs.Common.{◌≡◌, ℕ, ◌*◌, ◌<◌, ◌≤◌, true, not, eqb, is_some, Some, None, Option, sym, refl, ap, ◌∙◌, ap₂, arith}
 use Rattle.std.proofs.lemmas.Nat.{mul-le}
 use Rattle.std.proofs.lemmas.Bool.{both_ways, eq-eqb, ne_eqb, and_parts, and_from, leb-true, le-leb, ltb-true, lt-ltb, false≢true}
-use Rattle.field.specs.Ops.{Ops, Ring}
+use Rattle.field.specs.Ops.{Ops}
 use Rattle.field.specs.Algebra.{Algebra, RingLaws, Lawful, ops, first, inverse}
 use Rattle.field.proofs.Codes.{Code, code_path, elements, elements_ring, elements_inverse, elements_decide}
 use Rattle.field.proofs.Inverse.{inverse_is, inverse_of_zero, inverse_some, inverse_none, lawful, first_none, none_first}

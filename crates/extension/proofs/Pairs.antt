@@ -1,7 +1,7 @@
 -- The quadratic extension over an abstract carrier: its ring laws, and its norm. Assumes nothing.
-use Rattle.std.proofs.Common.{◌≡◌, ◌⊎◌, sym, refl, ap, ◌∙◌, ap₂, ⊎_elim}
+use Rattle.std.proofs.Common.{◌≡◌, ◌⊎◌, sym, ap, ◌∙◌, ap₂, ⊎_elim}
 use Rattle.field.specs.Ops.{Ops, Ring}
-use Rattle.field.proofs.Rings.{nil_sum, sum_prod, sum_left_comm, prod_left_comm, sum_across, opp_opp, opp_cancel, opp_sum, opp_nil, difference_nil, prod_nil, nil_prod, prod_opp, opp_prod}
+use Rattle.field.proofs.Rings.{nil_sum, sum_prod, sum_left_comm, prod_left_comm, opp_opp, opp_cancel, opp_sum, opp_nil, difference_nil, prod_nil, nil_prod, prod_opp, opp_prod}
 use Rattle.extension.specs.Extension.{pairs, norm}
 
 module _ {K : Type 0} {o : Ops K} (R : Ring o) (u v : K) where

@@ -1,6 +1,6 @@
 -- The inverse as it is defined, a first number that passes a test, is the inverse that a law speaks of. Assumes nothing.
-use Rattle.std.proofs.Common.{◌≡◌, ℕ, zero, suc, ◌^◌, ◌<◌, ◌≤◌, Bool, true, false, eqb, ◌⊎◌, Some, None, Option, sym, refl, ap, ◌∙◌, subst, inl, inr, ⊎_elim, arith}
-use Rattle.std.proofs.lemmas.Bool.{eq-eqb, ne_eqb, eqb-true, cases_Bool, cases_eq, cases_lt, false≢true}
+use Rattle.std.proofs.Common.{◌≡◌, ℕ, zero, suc, ◌^◌, ◌<◌, ◌≤◌, Bool, true, false, Some, None, Option, refl, ap, ◌∙◌, subst, ⊎_elim, arith}
+use Rattle.std.proofs.lemmas.Bool.{eq-eqb, ne_eqb, eqb-true, cases_Bool, cases_eq, cases_lt}
 use Rattle.field.specs.Algebra.{Algebra, RingLaws, Lawful, first, or_else, inverse, Quotient}
 use Rattle.field.proofs.Codes.{Code, code_path, carrier_ring, elements, elements_ring}
 use Rattle.field.proofs.Rings.{inverse_unique, nil_prod, prod_left_comm}

@@ -1,10 +1,9 @@
 -- Reading a text line by line: what holds after some lines, one line more, and each way to end. Assumes nothing.
-use Rattle.std.proofs.Common.{◌≡◌, ℕ, zero, suc, ◌+◌, ◌<◌, ◌≤◌, ◌⊎◌, List, [], ◌∷◌, ◌++◌, length, sym, refl, ap, ◌∙◌, subst, inl, inr, add-one, arith}
-use Rattle.std.specs.List.{flat_map}
+use Rattle.std.proofs.Common.{◌≡◌, ℕ, suc, ◌+◌, ◌≤◌, List, [], ◌∷◌, ◌++◌, length, sym, refl, ap, ◌∙◌, subst, inl, inr, add-one}
 use Rattle.std.proofs.lemmas.List.{append-nil, append_assoc, length_push, flat_map_more}
 use Rattle.words.specs.Words.{Lacks}
 use Rattle.format.specs.Lines.{Line, written, text_of_lines, Formed}
-use Rattle.format.specs.Reading.{Draft, blank, MayFollow, Complete, checks, AllPass, after, Reads, declared, Accepted, LineFault, Stops, Faulty}
+use Rattle.format.specs.Reading.{Draft, blank, MayFollow, Complete, checks, AllPass, after, Reads, declared, Accepted, LineFault, Faulty}
 
 pub reads_push :
     (d e : Draft) (ls : List Line) (l : Line)

@@ -6,7 +6,7 @@ use Rattle.std.proofs.ByRecursion.{All-get_or, All-map, All-weaker}
 use Rattle.shapes.specs.Shapes.{kind_algebra}
 use Rattle.words.specs.Words.{is_name}
 use Rattle.equivalence.specs.Automata.{Rule}
-use Rattle.format.specs.Lines.{Side, Line, A, B, opens, rules, Formed}
+use Rattle.format.specs.Lines.{Side, Line, A, B, Formed}
 use Rattle.format.specs.Records.{State, Part, Record, field_of, AllExtend, symbol_names, state_names, Distinct, NumbersOneOf, ValidRule, ValidPart, ValidRecord, rule_line, lines_of}
 use Rattle.format.specs.Reading.{Draft, blank, MayFollow, checks, AllPass, after, Reads, number_of, Declared, Undeclared}
 use Rattle.format.proofs.Fields.{field_lawful, extends_middle, named_fits}

@@ -1,5 +1,5 @@
 -- The lines of a text, and how each is written.
-use Rattle.std.specs.Prelude.{◌≡◌, ℕ, zero, suc, ◌^◌, ◌<◌, ◌≤◌, Bool, true, List, [], ◌∷◌, ◌++◌, codes, decimal}
+use Rattle.std.specs.Prelude.{◌≡◌, ℕ, ◌^◌, ◌<◌, ◌≤◌, true, List, [], ◌∷◌, ◌++◌, codes, decimal}
 use Rattle.std.specs.List.{flat_map, AllByRecursion as All}
 use Rattle.words.specs.Words.{is_name, spaced}
 use Rattle.shapes.specs.declared.shape.Kind.{Kind}

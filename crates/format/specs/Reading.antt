@@ -8,7 +8,7 @@ use Rattle.shapes.specs.declared.shape.Kind.TheVariants.{Bytes}
 use Rattle.extension.specs.Extension.{Extends}
 use Rattle.words.specs.Words.{Lacks}
 use Rattle.format.specs.Lines.{Block, Side, Line, fields, steps, symbols, states, rules, A, B, opens, names_field, extends_by, declares_symbol, declares_state, gives_rule, written, text_of_lines, Formed}
-use Rattle.format.specs.Records.{Symbol, State, Part, Record, tower, symbol_names, state_names}
+use Rattle.format.specs.Records.{Symbol, Part, Record, tower, symbol_names, state_names}
 
 -- where reading stands: before the first line, after the line that opens a block, or after the line that names the field
 pub data Place : Type 0 where

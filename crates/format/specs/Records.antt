@@ -1,13 +1,13 @@
 -- What a text declares: the field, the symbols, and the states and rules of the two sides, each in order.
-use Rattle.std.specs.Prelude.{◌≡◌, ℕ, zero, suc, ◌-◌, ◌<◌, ◌≤◌, Bool, true, cond, List, [], ◌∷◌, ◌++◌, map, length, get_or, ◌≢◌, slice_index, slice_index_or}
-use Rattle.std.specs.List.{flat_map, AllByRecursion as All}
+use Rattle.std.specs.Prelude.{◌≡◌, ℕ, ◌-◌, ◌<◌, ◌≤◌, true, List, [], ◌∷◌, ◌++◌, map, length, get_or, ◌≢◌, slice_index, slice_index_or}
+use Rattle.std.specs.List.{AllByRecursion as All}
 use Rattle.field.specs.Algebra.{Algebra}
 use Rattle.shapes.specs.Shapes.{kind_algebra, named}
 use Rattle.shapes.specs.declared.shape.Kind.{Kind}
 use Rattle.extension.specs.Extension.{extension, Extends}
 use Rattle.words.specs.Words.{is_name}
 use Rattle.equivalence.specs.Automata.{Rule, Automaton, Sides}
-use Rattle.format.specs.Lines.{Block, Side, Line, fields, steps, symbols, states, rules, A, B, opens, names_field, extends_by, declares_symbol, declares_state, gives_rule, text_of_lines}
+use Rattle.format.specs.Lines.{Side, Line, fields, steps, symbols, states, rules, A, B, opens, names_field, extends_by, declares_symbol, declares_state, gives_rule, text_of_lines}
 
 pub record Symbol : Type 0 where
   pub name : List ℕ

@@ -1,5 +1,5 @@
 -- The moduli of the prime fields, and what a prime is.
-use Rattle.std.specs.Prelude.{◌≡◌, ℕ, ◌%◌, ◌<◌, ◌≤◌, Bool, false, ◌||◌, List, [], ◌∷◌, ◌==◌, ◌≢◌}
+use Rattle.std.specs.Prelude.{ℕ, ◌%◌, ◌<◌, ◌≤◌, Bool, false, ◌||◌, List, [], ◌∷◌, ◌==◌, ◌≢◌}
 
 -- p is prime: it is at least 2, and no d with 2 ≤ d < p divides it.
 pub record IsPrime (p : ℕ) : Type 0 where

@@ -1,5 +1,5 @@
 -- A session holds what the accepted calls declared. Assumes nothing.
-use Rattle.std.proofs.Common.{◌≡◌, ℕ, zero, suc, ◌+◌, ◌-◌, ◌≤◌, true, false, cond, ◌&&◌, eqb, List, [], ◌∷◌, ◌++◌, map, length, set, Ok, Err, sym, refl, ap, ◌∙◌, subst, ap₂, append_assoc, append-nil, arith}
+use Rattle.std.proofs.Common.{◌≡◌, ℕ, zero, suc, ◌+◌, ◌-◌, ◌≤◌, List, [], ◌∷◌, ◌++◌, map, length, set, Ok, Err, sym, refl, ap, ◌∙◌, subst, append_assoc, append-nil, arith}
 use mathlib.Core.Path.{fun_ext}
 use Rattle.std.specs.List.{flat_map}
 use Rattle.std.proofs.lemmas.List.{get_or_push, length-map, length_push}
@@ -7,11 +7,11 @@ use Rattle.std.proofs.lemmas.Bool.{eq-eqb, ne_eqb}
 use Rattle.equivalence.specs.Entries.{Entry, tree_of}
 use Rattle.equivalence.specs.Trees.{rank}
 use Rattle.field.specs.Algebra.{Algebra, ops}
-use Rattle.equivalence.specs.Automata.{Rule, Automaton, Sides, numbers, states, value}
+use Rattle.equivalence.specs.Automata.{Rule, Automaton, Sides, numbers, value}
 use Rattle.equivalence.specs.Valuing.{last_or}
 use Rattle.equivalence.proofs.Members.{length_numbers}
 use Rattle.session.specs.Calls.{Call, Given, Outcome, AllPass, After, Does, StateOf, checks, call_symbol, call_rule, call_final, call_weigh}
-use Rattle.session.specs.Sessions.{Session, begun, side, with_side, with_sides, with_symbol, with_rule, with_final}
+use Rattle.session.specs.Sessions.{Session, begun, side, with_symbol, with_rule, with_final}
 use Rattle.session.specs.Runs.{Event, Run, accepted, calls}
 use Rattle.session.specs.Theorems.{Numbered}
 use Rattle.session.specs.Declarations.{symbol_given, rule_given, final_given, automaton_given, sides_given}

@@ -1,5 +1,5 @@
 -- A call has one outcome and leads to one session. Assumes nothing.
-use Rattle.std.proofs.Common.{◌≡◌, ℕ, true, false, ◌⊎◌, ◌↔◌, List, [], ◌∷◌, is_ok, Ok, Err, sym, refl, ap, ◌∙◌, inl, inr, arith}
+use Rattle.std.proofs.Common.{◌≡◌, ℕ, true, ◌↔◌, List, [], ◌∷◌, is_ok, Ok, Err, sym, refl, ap, ◌∙◌, inl, inr, arith}
 use Rattle.field.specs.Algebra.{Algebra}
 use Rattle.refusals.specs.declared.Refusal.{Refusal}
 use Rattle.session.specs.Calls.{Call, Given, Outcome, Check, AllPass, FirstFailing, After, Does, checks, call_symbol, call_rule, call_final, call_weigh}

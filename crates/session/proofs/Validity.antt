@@ -1,5 +1,5 @@
 -- Every call leaves a valid session valid. Assumes nothing.
-use Rattle.std.proofs.Common.{◌≡◌, ℕ, zero, suc, ◌-◌, ◌<◌, ◌≤◌, List, [], ◌∷◌, ◌++◌, length, set, replicate, Ok, Err, sym, refl, ap, ◌∙◌, subst, arith}
+use Rattle.std.proofs.Common.{◌≡◌, ℕ, zero, suc, ◌-◌, ◌<◌, ◌≤◌, List, [], ◌∷◌, ◌++◌, length, set, replicate, Ok, Err, sym, ◌∙◌, subst, arith}
 use Rattle.std.specs.List.{AllByRecursion as All}
 use Rattle.std.proofs.ByRecursion.{All-push, All-set, All-weaker}
 use Rattle.std.proofs.lemmas.List.{length_push, length-set, length-replicate, get_or_append_left}
@@ -8,7 +8,7 @@ use Rattle.equivalence.specs.Automata as automata
 use Rattle.equivalence.specs.Trees.{rank, Declared}
 use Rattle.equivalence.specs.Automata.{Rule, Automaton, Sides, Sound, states}
 use Rattle.session.specs.Calls.{Call, Given, Outcome, AllPass, After, Does, StateOf, checks, call_symbol, call_rule, call_final, call_weigh}
-use Rattle.session.specs.Sessions.{Session, begun, blank, side, with_sides, with_symbol, with_rule, with_final}
+use Rattle.session.specs.Sessions.{Session, begun, blank, with_sides, with_symbol, with_rule, with_final}
 use Rattle.session.specs.Runs.{Event, Run}
 use Rattle.session.specs.Validity.{ValidRule, ValidSide, ValidSession, Valid}
 

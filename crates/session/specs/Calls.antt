@@ -3,7 +3,7 @@ use Rattle.std.specs.Prelude.{◌≡◌, ℕ, suc, ◌<◌, ◌≤◌, ◌⊎◌
 use Rattle.std.specs.List.{AllByRecursion as All}
 use Rattle.field.specs.Algebra.{Algebra, ops}
 use Rattle.equivalence.specs.Trees.{rank, Declared}
-use Rattle.equivalence.specs.Automata.{Rule, Automaton, states, value}
+use Rattle.equivalence.specs.Automata.{Automaton, states, value}
 use Rattle.equivalence.specs.Entries.{Entry, WellFormed, tree_of}
 use Rattle.refusals.specs.declared.Refusal.{Refusal}
 use Rattle.refusals.specs.declared.Refusal.TheVariants.{WeightTooLarge, StateCountOutOfRange, Undeclared, WrongChildren, RankTooLarge, NoSuchSide, MalformedTree, Sealed, TableFull}

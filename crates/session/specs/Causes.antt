@@ -1,6 +1,6 @@
 -- When each refusal is given, whatever the call. The checks say for each call which refusals it may give; this says for
 -- each refusal what it means.
-use Rattle.std.specs.Prelude.{◌≡◌, ℕ, ◌<◌, ◌≤◌, ◌⊎◌, List, [], ◌∷◌, map, length, ◌≢◌}
+use Rattle.std.specs.Prelude.{ℕ, ◌<◌, ◌≤◌, ◌⊎◌, List, [], ◌∷◌, map, length, ◌≢◌}
 use Rattle.field.specs.Algebra.{Algebra}
 use Rattle.equivalence.specs.Trees.{rank, Declared}
 use Rattle.equivalence.specs.Automata.{Rule, Automaton, Sides}

@@ -1,5 +1,5 @@
 -- What a comparison holds: its phase, the symbols declared and the two automata. Side 0 is A, side 1 is B.
-use Rattle.std.specs.Prelude.{ℕ, zero, suc, ◌-◌, List, [], ◌∷◌, ◌++◌, replicate, slice_set}
+use Rattle.std.specs.Prelude.{ℕ, zero, suc, ◌-◌, [], ◌∷◌, ◌++◌, replicate, slice_set}
 use Rattle.equivalence.specs.Automata.{Rule, Automaton, Sides}
 use Rattle.session.specs.declared.Phase.{Phase}
 use Rattle.session.specs.declared.Phase.TheVariants.{Open}

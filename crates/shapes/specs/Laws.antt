@@ -1,13 +1,11 @@
 -- A valid shape is a field. Assumes nothing.
 use Rattle.std.proofs.lemmas.Bool.{and_parts, and_from}
-use Rattle.field.specs.Algebra.{Algebra, Lawful}
+use Rattle.field.specs.Algebra.{Lawful}
 use Rattle.prime.specs.Residues.{residues}
 use Rattle.prime.specs.Moduli.{admitted}
 use Rattle.prime.specs.Inverses.{residue_field}
 use Rattle.prime.specs.Primality.{admitted_prime, admitted_fits}
-use Rattle.polynomials.specs.Polynomials.{gf256}
 use Rattle.polynomials.proofs.Laws.{field}
-use Rattle.extension.specs.Extension.{extension}
 use Rattle.extension.proofs.Laws.{extension_lawful, extends_from_test, test_from_extends}
 use Rattle.std.specs.Prelude.{◌≡◌, ℕ, true, refl}
 use Rattle.shapes.specs.Shapes.{algebra, valid, ValidShape}

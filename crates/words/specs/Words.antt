@@ -1,5 +1,5 @@
 -- The parts of a line, as bytes: names, numbers, and fields parted by one space.
-use Rattle.std.specs.Prelude.{◌≡◌, ℕ, ◌^◌, ◌<◌, ◌≤◌, Bool, true, false, ◌&&◌, ◌||◌, List, [], ◌∷◌, ◌++◌, length, decimal, ◌==◌, ◌≢◌, nat_le}
+use Rattle.std.specs.Prelude.{◌≡◌, ℕ, ◌^◌, ◌<◌, Bool, false, ◌&&◌, ◌||◌, List, [], ◌∷◌, ◌++◌, length, decimal, ◌==◌, ◌≢◌, nat_le}
 use Rattle.std.specs.List.{AllByRecursion as All, list_all}
 
 -- no byte of the list is b

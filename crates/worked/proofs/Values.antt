@@ -1,5 +1,5 @@
 -- The worked cases, computed by antt from the definitions. Assumes nothing.
-use Rattle.std.proofs.Common.{◌≡◌, refl, lit<, lit≤}
+use Rattle.std.proofs.Common.{refl, lit<, lit≤}
 use Rattle.field.specs.Algebra.{inverse, first}
 use Rattle.prime.specs.Residues.{residues}
 use Rattle.polynomials.specs.Polynomials.{times}

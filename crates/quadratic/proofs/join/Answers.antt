@@ -1,4 +1,4 @@
-use Rattle.std.proofs.Common.{arith, rules}
+use Rattle.std.proofs.Common.{rules}
 use Rattle.extension.proofs.Digits.{encode_below, square_fits}
 use Rattle.quadratic.proofs.join.Goals as goal
 

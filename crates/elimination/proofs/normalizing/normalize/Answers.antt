@@ -1,4 +1,3 @@
-use Rattle.std.proofs.Common.{◌<◌, length, get_or, ap, ◌∙◌}
 use Rattle.std.proofs.ByRecursion.{All-get_or}
 use Rattle.elimination.proofs.Steps.{inverse_given, inverse_read}
 use Rattle.elimination.proofs.normalizing.normalize.Goals as goal

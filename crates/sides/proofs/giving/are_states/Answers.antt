@@ -1,4 +1,4 @@
-use Rattle.std.proofs.Common.{false, refl, subst, arith}
+use Rattle.std.proofs.Common.{false, refl, subst}
 use Rattle.automaton.specs.Tables.{automaton_of}
 use Rattle.session.specs.Calls.{StateOf}
 use Rattle.std.specs.List.{AllByRecursion as All}

@@ -1,4 +1,4 @@
-use Rattle.std.proofs.Common.{◌≡◌, ◌<◌, [], ◌∷◌, ◌++◌, length, ap, ◌∙◌, arith, rules}
+use Rattle.std.proofs.Common.{◌<◌, [], ◌∷◌, ◌++◌, length, ap, ◌∙◌, arith, rules}
 use Rattle.automaton.specs.Tables.{automaton_of, ranks_of}
 use Rattle.rules.specs.Rules.{rule_model}
 use Rattle.sides.proofs.Tables.{grown, ruled_from, few_children}

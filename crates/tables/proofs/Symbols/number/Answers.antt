@@ -1,4 +1,4 @@
-use Rattle.std.proofs.Common.{◌≡◌, refl, arith}
+use Rattle.std.proofs.Common.{refl, arith}
 use Rattle.tables.specs.Tables.{symbol_of}
 use Rattle.tables.proofs.Names.{look_up_more, look_up_found, look_up_none}
 use Rattle.tables.proofs.Symbols.number.Goals as goal
