@@ -1,4 +1,4 @@
-use Rattle.std.proofs.Common.{◌≡◌, sym, ◌∙◌}
+use Rattle.std.proofs.Common.{sym, ◌∙◌}
 use Rattle.lines.proofs.Children.{names_cut, names_last, names_tell, first_before}
 use Rattle.lines.proofs.kinds.are_names.Goals as goal
 

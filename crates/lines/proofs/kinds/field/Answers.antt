@@ -1,4 +1,4 @@
-use Rattle.std.proofs.Common.{◌≡◌, sym, ◌∙◌, arith}
+use Rattle.std.proofs.Common.{sym, ◌∙◌, arith}
 use Rattle.words.proofs.Numbers.{same_from_decimal_32}
 use Rattle.lines.proofs.Absence.{field_absent}
 use Rattle.lines.proofs.kinds.field.Goals as goal

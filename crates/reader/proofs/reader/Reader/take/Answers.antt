@@ -13,7 +13,7 @@ invariant_of-self-in-Break· c =
 
 pub returns-in_err-name_field : goal.returns-in_err-name_field
 returns-in_err-name_field c =
-    let p = err_from_is_err_and c.from-residual.result c.from-residual.ensures.1 in
+    let p = err_from_is_err_and c.from_residual.result c.from_residual.ensures.1 in
     rw (p.1, p.2, c.in-Field.is) (c.in_err-name_field.ensures (place_of c.args.self.now.place)).0
 
 pub returns-in_ok-name_field : goal.returns-in_ok-name_field

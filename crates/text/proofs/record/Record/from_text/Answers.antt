@@ -5,7 +5,7 @@ use Rattle.text.proofs.record.Record.from_text.Goals as goal
 
 pub returns-in_err-draft : goal.returns-in_err-draft
 returns-in_err-draft c =
-    let p = err_from_is_err_and c.from-residual.result c.from-residual.ensures.1 in
+    let p = err_from_is_err_and c.from_residual.result c.from_residual.ensures.1 in
     rw (p.1, p.2) (refused c.args.text.now _ c.in_err-draft.ensures)
 
 pub invariant_of-result : goal.invariant_of-result
