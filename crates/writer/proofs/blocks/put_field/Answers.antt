@@ -13,7 +13,7 @@ returns c =
     let h = c.put_bytes-headed.ensures in
     let o = c.put_bytes-opened.ensures in
     let shape = c.shape-shape.ensures.value ∙ ap (λ g. g.shape) c.field.ensures in
-    let kind = c.shape_kind.ensures ∙ ap shape_kind shape in
+    let kind = c.kind_of.ensures ∙ ap shape_kind shape in
     let all = c.steps_of-count.ensures.0 ∙ ap steps shape in
     let count = sym (length-take-le c.steps_of-count.result.1 c.steps_of-count.result.0 (omega arith)) ∙ ap length all in
     record {
