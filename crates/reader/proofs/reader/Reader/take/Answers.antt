@@ -7,18 +7,18 @@ use Rattle.places.specs.Places.{place_of}
 use Rattle.reader.proofs.Places.{took, took_state, took_rule}
 use Rattle.reader.proofs.reader.Reader.take.Goals as goal
 
-pub invariant_of-self-in-Break· : goal.invariant_of-self-in-Break·
-invariant_of-self-in-Break· c =
-    (λ e. ap (λ d. d.steps) (c.in_err-name_field.ensures reading.nowhere).1 ∙ c.args.self.now.unextended e, tt)
+pub invariant_of-self-in-Break-1 : goal.invariant_of-self-in-Break-1
+invariant_of-self-in-Break-1 c =
+    record { unextended = λ e. ap (λ d. d.steps) (c.in_err-name_field-in-Field.ensures reading.nowhere).1 ∙ c.args.self.now.unextended e }
 
-pub returns-in_err-name_field : goal.returns-in_err-name_field
-returns-in_err-name_field c =
+pub returns-in_err-name_field-in-Field : goal.returns-in_err-name_field-in-Field
+returns-in_err-name_field-in-Field c =
     let p = err_from_is_err_and c.from_residual.result c.from_residual.ensures.1 in
-    rw (p.1, p.2, c.in-Field.is) (c.in_err-name_field.ensures (place_of c.args.self.now.place)).0
+    rw (p.1, p.2, c.in-Field.is) (c.in_err-name_field-in-Field.ensures (place_of c.args.self.now.place)).0
 
-pub returns-in_ok-name_field : goal.returns-in_ok-name_field
-returns-in_ok-name_field c =
-    rw c.in-Field.is (c.in_ok-name_field.ensures (place_of c.args.self.now.place))
+pub returns-in_ok-name_field-in-Field : goal.returns-in_ok-name_field-in-Field
+returns-in_ok-name_field-in-Field c =
+    rw c.in-Field.is (c.in_ok-name_field-in-Field.ensures (place_of c.args.self.now.place))
 
 pub returns-in-Step : goal.returns-in-Step
 returns-in-Step c =
