@@ -1,11 +1,11 @@
 -- Declaring keeps an automaton over codes below q.
 use Rattle.std.proofs.Common.{◌≡◌, ℕ, zero, suc, ◌-◌, ◌<◌, [], ◌∷◌, ◌++◌, length, replicate, sym, subst, length-set}
-use Rattle.std.specs.List.{AllByRecursion as All}
+use Rattle.std.specs.List.{AllByRecursion}
 use Rattle.std.proofs.ByRecursion.{All-push, All-set}
 use Rattle.equivalence.specs.Automata.{Automaton, Rule, Sound, SoundRule, states}
 use Rattle.automaton.specs.Tables.{blank_automaton, with_final}
 
-pub all_replicate : {X : Type 0} (P : X → Type 0) (n : ℕ) (x : X) → P x → All P (replicate n x)
+pub all_replicate : {X : Type 0} (P : X → Type 0) (n : ℕ) (x : X) → P x → AllByRecursion P (replicate n x)
 all_replicate P zero x p = tt
 all_replicate P (suc n) x p = (p, all_replicate P n x p)
 
@@ -19,14 +19,14 @@ module _ (q : ℕ) where
         let same : length M.finals ≡ states (with_final M s w) = sym (length-set M.finals (s - 1) w) in
         record {
           finals = All-set (λ x. x < q) M.finals (s - 1) w h sound.finals;
-          rules = subst (λ n. All (SoundRule q n) M.rules) same sound.rules;
+          rules = subst (λ n. AllByRecursion (SoundRule q n) M.rules) same sound.rules;
         }
 
     pub rule_sound : (r : Rule ℕ) (N : Automaton ℕ) → SoundRule q (states M) r → N.finals ≡ M.finals → N.rules ≡ M.rules ++ (r ∷ []) → Sound q N
     rule_sound r N h finals rules =
         let all = All-push (SoundRule q (states M)) M.rules r sound.rules h in
-        let same = subst (All (SoundRule q (states M))) (sym rules) all in
+        let same = subst (AllByRecursion (SoundRule q (states M))) (sym rules) all in
         record {
-          finals = subst (All (λ w. w < q)) (sym finals) sound.finals;
-          rules = subst (λ fs. All (SoundRule q (length fs)) N.rules) (sym finals) same;
+          finals = subst (AllByRecursion (λ w. w < q)) (sym finals) sound.finals;
+          rules = subst (λ fs. AllByRecursion (SoundRule q (length fs)) N.rules) (sym finals) same;
         }

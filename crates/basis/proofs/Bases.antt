@@ -1,6 +1,6 @@
 -- Elimination by the rows of a basis. Assumes nothing.
 use Rattle.std.proofs.Common.{◌≡◌, ℕ, ◌+◌, ◌<◌, ◌≤◌, true, false, List, [], ◌∷◌, ◌++◌, map, length, get_or, take, Some, sym, refl, ap, ◌∙◌, subst, ap₂, subst₂, arith}
-use Rattle.std.specs.List.{AllByRecursion as All}
+use Rattle.std.specs.List.{AllByRecursion}
 use Rattle.std.proofs.lemmas.List.{length-map, length_push, length-take-le, take-take}
 use Rattle.std.proofs.ByRecursion.{All-take}
 use Rattle.field.specs.Algebra.{Algebra, Lawful, ops}
@@ -66,9 +66,9 @@ module _ (A : Algebra) (D : ℕ) (kept : List (List ℕ)) (b : Basis) where
 clears :
     (A : Algebra) (m n : ℕ) (rows : List Row)
     → m ≡ n
-    → All (VectorOver A n) (vectors (map (row_of m) rows))
+    → AllByRecursion (VectorOver A n) (vectors (map (row_of m) rows))
     → Echelon n (map (row_of m) rows)
-    → All (Clears A n) rows
+    → AllByRecursion (Clears A n) rows
 clears A m n [] e h k = tt
 clears A m n (r ∷ rows) e h k =
     ((k.0, subst (λ i. VectorOver A n (take i r.codes)) e h.0), clears A m n rows e h.1 k.3)
@@ -78,11 +78,11 @@ pub insertable_clears :
     → copy ≡ v
     → m ≤ b.count
     → Insertable A b v
-    → All (Clears A (length copy)) (take m b.rows)
+    → AllByRecursion (Clears A (length copy)) (take m b.rows)
 insertable_clears A b v copy m e l s =
     let h = s.2 in
     let all = clears A b.width s.0 (take b.count b.rows) h.width h.rows h.echelon in
-    subst₂ (λ n rows. All (Clears A n) rows) (sym (ap length e ∙ s.3.0)) (take-take m b.count b.rows l)
+    subst₂ (λ n rows. AllByRecursion (Clears A n) rows) (sym (ap length e ∙ s.3.0)) (take-take m b.count b.rows l)
     (All-take (Clears A s.0) m (take b.count b.rows) all)
 
 -- What is left of a copy of a vector, w, decides whether the vector is kept.

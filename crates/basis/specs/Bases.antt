@@ -1,6 +1,6 @@
 -- What a basis stands for.
 use Rattle.std.specs.Prelude.{◌≡◌, ℕ, ◌<◌, Bool, true, false, List, [], ◌∷◌, ◌++◌, map, length, take, slice_index}
-use Rattle.std.specs.List.{AllByRecursion as All}
+use Rattle.std.specs.List.{AllByRecursion}
 use Rattle.field.specs.Algebra.{Algebra}
 use Rattle.equivalence.specs.Spans.{SumOfMultiples}
 use Rattle.elimination.specs.Vectors.{VectorOver}
@@ -17,18 +17,18 @@ rows_of b = map (λ x. x.1) (pivoted_rows b)
 abbrev pub Echelon : ℕ → List ((p : ℕ) × List ℕ) → Type 0
 Echelon n [] = Unit {0}
 Echelon n (x ∷ rows) =
-    (x.0 < n) × (slice_index x.1 x.0 ≡ 1) × All (λ y. slice_index y.1 x.0 ≡ 0) rows × Echelon n rows
+    (x.0 < n) × (slice_index x.1 x.0 ≡ 1) × AllByRecursion (λ y. slice_index y.1 x.0 ≡ 0) rows × Echelon n rows
 
 -- The basis is one of the kept vectors, which have D places: as many rows, in echelon form, and each kept vector is a sum
 -- of multiples of the rows, and each row one of the kept vectors.
 pub record BasisFor (A : Algebra) (D : ℕ) (kept : List (List ℕ)) (b : Basis) : Type 0 where
   pub width : b.width ≡ D
   pub count : length (rows_of b) ≡ length kept
-  pub vectors : All (VectorOver A D) kept
-  pub rows : All (VectorOver A D) (rows_of b)
+  pub vectors : AllByRecursion (VectorOver A D) kept
+  pub rows : AllByRecursion (VectorOver A D) (rows_of b)
   pub echelon : Echelon D (pivoted_rows b)
-  pub of_rows : All (SumOfMultiples A D (rows_of b)) kept
-  pub of_kept : All (SumOfMultiples A D kept) (rows_of b)
+  pub of_rows : AllByRecursion (SumOfMultiples A D (rows_of b)) kept
+  pub of_kept : AllByRecursion (SumOfMultiples A D kept) (rows_of b)
 
 -- the basis is one of some vectors, and the vector has their places
 abbrev pub Insertable : Algebra → Basis → List ℕ → Type 0

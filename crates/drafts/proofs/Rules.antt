@@ -1,7 +1,7 @@
 -- The checks of a rule line, from what the look-ups answer.
 use Rattle.std.proofs.Common.{◌≡◌, ℕ, ◌-◌, ◌<◌, ◌≤◌, Bool, List, [], ◌∷◌, ◌++◌, map, length, get_or, take, Decides, sym, refl, ap, ◌∙◌, subst, arith}
 use lib.ListN.{length-map}
-use Rattle.std.specs.List.{AllByRecursion as All}
+use Rattle.std.specs.List.{AllByRecursion}
 use Rattle.std.proofs.ByRecursion.{All-map}
 use Rattle.std.proofs.lemmas.Bool.Decides.{Decides-like}
 use Rattle.format.specs.Records.{state_names, symbol_names}
@@ -53,12 +53,12 @@ module _ (d : Draft) (x : Side) (p : Place) (cs : List (List ℕ)) (c : Children
     children_numbers =
         (kept_whole c.numbers c.count _ k few).1 ∙ ap (λ ns. map (number_of ns) cs) (same_names d x p)
 
-    pub children_declared : (b : Bool) → Decides b (All (λ n. 1 ≤ n) (take c.count c.numbers)) → Decides b (All (Declared (names d x p)) cs)
+    pub children_declared : (b : Bool) → Decides b (AllByRecursion (λ n. 1 ≤ n) (take c.count c.numbers)) → Decides b (AllByRecursion (Declared (names d x p)) cs)
     children_declared b h =
         let e = children_numbers in
         Decides-like b
-        (λ all. all_from_map (λ n. 1 ≤ n) (number_of (names d x p)) cs (subst (All (λ n. 1 ≤ n)) e all))
-        (λ all. subst (All (λ n. 1 ≤ n)) (sym e) (All-map (λ n. 1 ≤ n) (number_of (names d x p)) cs all))
+        (λ all. all_from_map (λ n. 1 ≤ n) (number_of (names d x p)) cs (subst (AllByRecursion (λ n. 1 ≤ n)) e all))
+        (λ all. subst (AllByRecursion (λ n. 1 ≤ n)) (sym e) (All-map (λ n. 1 ≤ n) (number_of (names d x p)) cs all))
         h
 
 -- what is known of a line with a target whose number is n, once its symbol is declared and its children are as many as the rank
@@ -67,4 +67,4 @@ pub record Found (d : Draft) (x : Side) (p : Place) (s t : List ℕ) (cs : List 
   pub count : length cs ≡ rank_of d s
   pub target : n ≡ number_of (names d x p) t
   pub children : take c.count c.numbers ≡ map (number_of (names d x p)) cs
-  pub declared : (b : Bool) → Decides b (All (λ m. 1 ≤ m) (take c.count c.numbers)) → Decides b (All (Declared (names d x p)) cs)
+  pub declared : (b : Bool) → Decides b (AllByRecursion (λ m. 1 ≤ m) (take c.count c.numbers)) → Decides b (AllByRecursion (Declared (names d x p)) cs)

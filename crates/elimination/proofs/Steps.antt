@@ -1,6 +1,6 @@
 -- A vector cleared already, one row more, and the inverse as it is read. Assumes nothing.
 use Rattle.std.proofs.Common.{◌≡◌, ℕ, ◌+◌, ◌<◌, ◌≤◌, true, List, map, length, get_or, take, is_some, Some, Option, sym, refl, ap, ◌∙◌, subst, ap₂, arith}
-use Rattle.std.specs.List.{AllByRecursion as All}
+use Rattle.std.specs.List.{AllByRecursion}
 use Rattle.std.proofs.lemmas.List.{map_more, take_all}
 use Rattle.std.proofs.lemmas.List.FromFn.{fill_by_all}
 use Rattle.std.proofs.lemmas.List.Sums.{fold_push}
@@ -13,7 +13,7 @@ use Rattle.elimination.specs.Rows.{row_of}
 use Rattle.elimination.specs.declared.Row.{Row}
 
 -- what holds of each element holds of the one read at a place
-pub all_read : {X : Type 0} (P : X → Type 0) (xs : List X) (i : ℕ) (x : X) → i < length xs → x ≡ get_or xs i x → All P xs → P x
+pub all_read : {X : Type 0} (P : X → Type 0) (xs : List X) (i : ℕ) (x : X) → i < length xs → x ≡ get_or xs i x → AllByRecursion P xs → P x
 all_read P xs i x l e h = subst P (sym e) (All-get_or P xs i x l h)
 
 -- what is zero at the pivot is cleared already
@@ -26,7 +26,7 @@ module _ (A : Algebra) (L : Lawful A) where
 
   pub cleared_already :
       (v row : List ℕ) (p : ℕ)
-      → All (λ c. c < A.size) v
+      → AllByRecursion (λ c. c < A.size) v
       → VectorOver A (length v) row
       → get_or v p 0 ≡ 0
       → v ≡ cleared_by A (length v) v (p, row)

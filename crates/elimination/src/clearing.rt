@@ -2,7 +2,7 @@
 ghost use Rattle.std.specs.Prelude.{◌≡◌, ◌<◌, ◌≤◌, map, length};
 ghost use Rattle.elimination.specs.Rows.{Clears, row_of};
 ghost use Rattle.elimination.specs.Vectors.{VectorOver, cleared_by, reduced_by};
-ghost use Rattle.std.specs.List.{AllByRecursion as All};
+ghost use Rattle.std.specs.List.{AllByRecursion};
 
 use crate::Row;
 use field::Field;
@@ -11,8 +11,8 @@ use field::Field;
 pub fn clear<F: Field>(f: &F, pivot: usize, row: &[u32], v: &mut [u32])
     requires field { F.Field.valid f.now }
     requires place { pivot < length v.old }
-    requires codes { (VectorOver (F.Field.model f.now) (length v.old) row.now) × (All (λ c. c < (F.Field.model f.now).size) v.old) }
-    ensures codes { All (λ c. c < (F.Field.model f.now).size) v.new }
+    requires codes { (VectorOver (F.Field.model f.now) (length v.old) row.now) × (AllByRecursion (λ c. c < (F.Field.model f.now).size) v.old) }
+    ensures codes { AllByRecursion (λ c. c < (F.Field.model f.now).size) v.new }
     ensures value { v.new ≡ cleared_by (F.Field.model f.now) (length v.old) v.old (pivot, row.now) }
 {
     if v[pivot] == 0 {
@@ -27,9 +27,9 @@ pub fn clear<F: Field>(f: &F, pivot: usize, row: &[u32], v: &mut [u32])
 // Clears v by each row, in order.
 pub fn reduce<F: Field>(f: &F, rows: &[Row], v: &mut [u32])
     requires field { F.Field.valid f.now }
-    requires codes { (All (Clears (F.Field.model f.now) (length v.old)) rows.now) × (All (λ c. c < (F.Field.model f.now).size) v.old) }
+    requires codes { (AllByRecursion (Clears (F.Field.model f.now) (length v.old)) rows.now) × (AllByRecursion (λ c. c < (F.Field.model f.now).size) v.old) }
     requires narrow { length v.old ≤ 24 }
-    ensures codes { All (λ c. c < (F.Field.model f.now).size) v.new }
+    ensures codes { AllByRecursion (λ c. c < (F.Field.model f.now).size) v.new }
     ensures value { v.new ≡ reduced_by (F.Field.model f.now) (length v.old) (map (row_of (length v.old)) rows.now) v.old }
 {
     for row in rows {

@@ -1,7 +1,7 @@
 // Making a row of what is left of a vector.
 ghost use Rattle.std.specs.Prelude.{◌≡◌, ◌<◌, length};
 ghost use Rattle.elimination.specs.Vectors.{scaled_by, Leads, Normalized};
-ghost use Rattle.std.specs.List.{AllByRecursion as All};
+ghost use Rattle.std.specs.List.{AllByRecursion};
 
 use field::Field;
 
@@ -20,7 +20,7 @@ pub fn leading(v: &[u32]) -> Option<usize>
 // Multiplies v by c.
 pub fn scale<F: Field>(f: &F, c: u32, v: &mut [u32])
     requires field { F.Field.valid f.now }
-    requires codes { (c < (F.Field.model f.now).size) × (All (λ x. x < (F.Field.model f.now).size) v.old) }
+    requires codes { (c < (F.Field.model f.now).size) × (AllByRecursion (λ x. x < (F.Field.model f.now).size) v.old) }
     ensures { v.new ≡ scaled_by (F.Field.model f.now) (length v.old) c v.old }
 {
     for i in 0..v.len() {
@@ -31,7 +31,7 @@ pub fn scale<F: Field>(f: &F, c: u32, v: &mut [u32])
 // Scales v so that it is one at its first place that is not zero, which is the result.
 pub fn normalize<F: Field>(f: &F, v: &mut [u32]) -> Option<usize>
     requires field { F.Field.valid f.now }
-    requires codes { All (λ c. c < (F.Field.model f.now).size) v.old }
+    requires codes { AllByRecursion (λ c. c < (F.Field.model f.now).size) v.old }
     ensures { Normalized (F.Field.model f.now) v.old result v.new }
 {
     let pivot = leading(v)?;

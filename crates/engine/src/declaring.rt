@@ -3,7 +3,7 @@ ghost use Rattle.std.specs.Prelude.{◌≡◌, ◌≤◌};
 ghost use Rattle.engine.specs.States.{session_of};
 ghost use Rattle.session.specs.Calls.{Does, IfRefused, call_final, call_rule, call_symbol};
 ghost use Rattle.session.specs.Sessions.{begun};
-ghost use Rattle.std.specs.List.{AllByRecursion as All};
+ghost use Rattle.std.specs.List.{AllByRecursion};
 
 use crate::state::State;
 use automaton::tables::{Automaton, Ranks};
@@ -69,7 +69,7 @@ impl<F: Field> State<F> {
         weight: u32,
         children: &[u32],
     ) -> Result<(), Refusal>
-        requires { (F.Field.valid self.old.field) × (All (λ k. k ≤ 3) (session_of self.old).sides.ranks) }
+        requires { (F.Field.valid self.old.field) × (AllByRecursion (λ k. k ≤ 3) (session_of self.old).sides.ranks) }
         ensures does { Does (F.Field.model self.old.field) (session_of self.old) (call_rule side symbol target weight children.now) result (session_of self.new) }
         ensures field { self.new.field ≡ self.old.field }
         ensures same { IfRefused result (self.new ≡ self.old) }

@@ -1,12 +1,12 @@
 -- Elements of lists and of their images.
 use Rattle.std.proofs.Common.{◌≡◌, ℕ, zero, suc, ◌+◌, ◌-◌, ◌<◌, ◌≤◌, List, [], ◌∷◌, map, length, get_or, drop, sym, ap, ◌∙◌, subst, arith}
 use lib.ListN.{length-map}
-use Rattle.std.specs.List.{AllByRecursion as All}
+use Rattle.std.specs.List.{AllByRecursion}
 use Rattle.std.proofs.ByRecursion.{All-get_or}
 use Rattle.std.proofs.lemmas.List.{drop_more, get_or-map}
 
 -- what holds of the elements and of the default holds wherever one reads
-pub all_read : {X : Type 0} (P : X → Type 0) (xs : List X) (i : ℕ) (d : X) → P d → All P xs → P (get_or xs i d)
+pub all_read : {X : Type 0} (P : X → Type 0) (xs : List X) (i : ℕ) (d : X) → P d → AllByRecursion P xs → P (get_or xs i d)
 all_read P [] i d p h = p
 all_read P (x ∷ xs) zero d p h = h.0
 all_read P (x ∷ xs) (suc i) d p h = all_read P xs i d p h.1
@@ -21,7 +21,7 @@ module _ {X Y : Type 0} (f : X → Y) (xs : List X) (i : ℕ) (x : X) (less : i 
   pub image_at : get_or (map f xs) i (f x) ≡ f x
   image_at = get_or-map f xs i x (f x) less ∙ ap f (sym is)
 
-  pub all_image : (P : Y → Type 0) → All P (map f xs) → P (f x)
+  pub all_image : (P : Y → Type 0) → AllByRecursion P (map f xs) → P (f x)
   all_image P h =
       let l = length-map xs f in
       subst P image_at (All-get_or P (map f xs) i (f x) (omega arith) h)

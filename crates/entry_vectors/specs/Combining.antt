@@ -1,6 +1,6 @@
 -- What it takes to combine vectors, and the steps of it.
 use Rattle.std.specs.Prelude.{ℕ, zero, suc, ◌<◌, ◌≤◌, cond, List, [], ◌∷◌, length, ◌==◌, slice_index_or, slice_set}
-use Rattle.std.specs.List.{AllByRecursion as All}
+use Rattle.std.specs.List.{AllByRecursion}
 use Rattle.field.specs.Ops.{Ops}
 use Rattle.equivalence.specs.Automata.{Rule}
 use Rattle.equivalence.specs.Entries.{Entry}
@@ -8,18 +8,18 @@ use Rattle.equivalence.specs.Valuing.{through}
 
 -- a vector of codes below q, and vectors of them
 abbrev pub AllBelow : ℕ → List ℕ → Type 0
-AllBelow q xs = All (λ x. x < q) xs
+AllBelow q xs = AllByRecursion (λ x. x < q) xs
 
 abbrev pub Codes : ℕ → List (List ℕ) → Type 0
-Codes q vs = All (AllBelow q) vs
+Codes q vs = AllByRecursion (AllBelow q) vs
 
 -- the child numbers of an entry are 0 or name one of the vectors
 abbrev pub Earlier : List (List ℕ) → Entry → Type 0
-Earlier vs e = All (λ c. c ≤ length vs) e.children
+Earlier vs e = AllByRecursion (λ c. c ≤ length vs) e.children
 
 -- the child states of a rule are among n
 abbrev pub States : ℕ → Rule ℕ → Type 0
-States n r = All (λ s. (1 ≤ s) × (s ≤ n)) r.children
+States n r = AllByRecursion (λ s. (1 ≤ s) × (s ≤ n)) r.children
 
 -- how many numbers stand before the first 0
 abbrev pub arity_of : List ℕ → ℕ

@@ -1,6 +1,6 @@
 -- What a span is closed under. Assumes nothing.
 use Rattle.std.proofs.Common.{◌≡◌, ℕ, zero, suc, List, [], ◌∷◌, ◌++◌, length, sym, refl, ap, ◌∙◌, arith}
-use Rattle.std.specs.List.{ContainsAt as Has, AllByRecursion as All}
+use Rattle.std.specs.List.{ContainsAt as Has, AllByRecursion}
 use Rattle.std.proofs.ByRecursion.{All-weaker, All-push, all_has_itself, has_append_left, has_push}
 use Rattle.field.specs.Ops.{Ops, Ring, dot}
 use Rattle.field.proofs.Rings.{nil_sum, unit_prod, prod_nil, nil_prod, sum_prod, sum_across}
@@ -8,7 +8,7 @@ use Rattle.equivalence.proofs.Space.{Vector, combined, Spanned}
 
 -- each list's vectors are in the other's span
 abbrev pub SameSpan : {K : Type 0} → Ops K → List (Vector K) → List (Vector K) → Type 0
-SameSpan o us vs = All (Spanned o us) vs × All (Spanned o vs) us
+SameSpan o us vs = AllByRecursion (Spanned o us) vs × AllByRecursion (Spanned o vs) us
 
 module _ {K : Type 0} {o : Ops K} (R : Ring o) where
   open o use {nil, unit, sum as ◌⊕◌, prod as ◌⊗◌}
@@ -54,7 +54,7 @@ module _ {K : Type 0} {o : Ops K} (R : Ring o) where
       → ((v : Vector K) → ((i : ℕ) → v i ≡ nil) → P v)
       → ((c : K) (u v w : Vector K) → P u → P v → ((i : ℕ) → w i ≡ c ⊗ u i ⊕ v i) → P w)
       → (vs : List (Vector K)) (v : Vector K)
-      → All P vs
+      → AllByRecursion P vs
       → Spanned o vs v
       → P v
   spanned_least P none more [] v h s = none v (spanned_none v s)
@@ -91,7 +91,7 @@ module _ {K : Type 0} {o : Ops K} (R : Ring o) where
       (spanned_sum vs c a.1 b.1 (λ i. c ⊗ a.1 i ⊕ b.1 i) a.2 b.2 (λ i. refl))
       (λ i. e i ∙ rw (a.3 i, b.3 i) (across c a.0 b.0 (x i) (a.1 i) (b.1 i)))
 
-  pub spanned_trans : (vs ws : List (Vector K)) (v : Vector K) → Spanned o ws v → All (Spanned o vs) ws → Spanned o vs v
+  pub spanned_trans : (vs ws : List (Vector K)) (v : Vector K) → Spanned o ws v → AllByRecursion (Spanned o vs) ws → Spanned o vs v
   spanned_trans vs ws v s h = spanned_least (Spanned o vs) (spanned_nil vs) (spanned_sum vs) ws v h s
 
   pub spanned_member : (vs : List (Vector K)) (v : Vector K) → Has vs v → Spanned o vs v
@@ -100,7 +100,7 @@ module _ {K : Type 0} {o : Ops K} (R : Ring o) where
   spanned_member (x ∷ vs) v (suc j, l, e) = spanned_there x vs v (spanned_member vs v (j, omega arith, e))
 
   -- more vectors span more
-  pub spanned_front : (vs ws : List (Vector K)) → All (Spanned o (vs ++ ws)) vs
+  pub spanned_front : (vs ws : List (Vector K)) → AllByRecursion (Spanned o (vs ++ ws)) vs
   spanned_front vs ws =
       All-weaker (Has vs) (Spanned o (vs ++ ws)) (λ v m. spanned_member (vs ++ ws) v (has_append_left vs ws v m)) vs (all_has_itself vs)
 
@@ -112,18 +112,18 @@ module _ {K : Type 0} {o : Ops K} (R : Ring o) where
 
   -- lists of vectors, each in the span of another list
   pub spans_trans :
-      (us vs ws : List (Vector K)) → All (Spanned o us) vs → All (Spanned o vs) ws → All (Spanned o us) ws
+      (us vs ws : List (Vector K)) → AllByRecursion (Spanned o us) vs → AllByRecursion (Spanned o vs) ws → AllByRecursion (Spanned o us) ws
   spans_trans us vs ws h = All-weaker (Spanned o vs) (Spanned o us) (λ w s. spanned_trans us vs w s h) ws
 
-  pub spans_front : (us vs ws : List (Vector K)) → All (Spanned o us) vs → All (Spanned o (us ++ ws)) vs
+  pub spans_front : (us vs ws : List (Vector K)) → AllByRecursion (Spanned o us) vs → AllByRecursion (Spanned o (us ++ ws)) vs
   spans_front us vs ws = spans_trans (us ++ ws) us vs (spanned_front us ws)
 
   pub spans_push :
-      (us vs : List (Vector K)) (v : Vector K) → All (Spanned o us) vs → All (Spanned o (us ++ (v ∷ []))) (vs ++ (v ∷ []))
+      (us vs : List (Vector K)) (v : Vector K) → AllByRecursion (Spanned o us) vs → AllByRecursion (Spanned o (us ++ (v ∷ []))) (vs ++ (v ∷ []))
   spans_push us vs v h = All-push (Spanned o (us ++ (v ∷ []))) vs v (spans_front us vs (v ∷ []) h) (spanned_last us v)
 
   -- where each of the vectors is zero, their span is
-  pub spanned_nil_at : (p : ℕ) (vs : List (Vector K)) (v : Vector K) → All (λ w. w p ≡ nil) vs → Spanned o vs v → v p ≡ nil
+  pub spanned_nil_at : (p : ℕ) (vs : List (Vector K)) (v : Vector K) → AllByRecursion (λ w. w p ≡ nil) vs → Spanned o vs v → v p ≡ nil
   spanned_nil_at p =
       spanned_least (λ w. w p ≡ nil) (λ v e. e p) (λ c u v w hu hv e. e p ∙ rw (hu, hv) (sum_nil (c ⊗ nil) ∙ prod_nil R c))
 

@@ -2,7 +2,7 @@
 use Rattle.std.proofs.Common.{◌≡◌, ℕ, zero, suc, ◌-◌, ◌%◌, ◌<◌, ◌≤◌, min, max, ◌↔◌, List, [], ◌∷◌, ◌++◌, map, length, get_or, fold, sym, refl, ap, ◌∙◌, ap₂, subst₂, ⊎_elim, mod-lt, mod-eq_of_lt, arith}
 use mathlib.Core.Path.{fun_ext}
 use mathlib.Core.List.{map-map}
-use Rattle.std.specs.List.{AllByRecursion as All, range_with_len}
+use Rattle.std.specs.List.{AllByRecursion, range_with_len}
 use Rattle.std.proofs.lemmas.List.{map_push, length-map, map-id, get_or_past}
 use Rattle.std.proofs.lemmas.List.FromFn.{length-map-range_with_len, get_or-map-range_with_len}
 use Rattle.std.proofs.lemmas.Bool.{cases_lt}
@@ -46,7 +46,7 @@ cleared o entry v x i = o.sum (entry v i) (o.prod (o.opp (entry v x.0)) (entry x
 abbrev pub Echelon : {K V : Type 0} → Ops K → (V → ℕ → K) → ℕ → List (Row V) → Type 0
 Echelon o entry n [] = Unit {0}
 Echelon o entry n (x ∷ rows) =
-    (x.0 < n) × (entry x.1 x.0 ≡ o.unit) × All (λ y. entry y.1 x.0 ≡ o.nil) rows × Echelon o entry n rows
+    (x.0 < n) × (entry x.1 x.0 ≡ o.unit) × AllByRecursion (λ y. entry y.1 x.0 ≡ o.nil) rows × Echelon o entry n rows
 
 abbrev pub place_of : {K : Type 0} → Vector K → ℕ → K
 place_of v i = v i
@@ -58,16 +58,16 @@ reduced o rows v = fold (cleared o place_of) v rows
 abbrev pub scaled : {K : Type 0} → Ops K → K → Vector K → Vector K
 scaled o c v i = o.prod c (v i)
 
-all_everywhere : {X : Type 0} (P : X → Type 0) → ((x : X) → P x) → (xs : List X) → All P xs
+all_everywhere : {X : Type 0} (P : X → Type 0) → ((x : X) → P x) → (xs : List X) → AllByRecursion P xs
 all_everywhere P h [] = tt
 all_everywhere P h (x ∷ xs) = (h x, all_everywhere P h xs)
 
 all_with :
-    {X : Type 0} (P Q S : X → Type 0) → ((x : X) → P x → Q x → S x) → (xs : List X) → All P xs → All Q xs → All S xs
+    {X : Type 0} (P Q S : X → Type 0) → ((x : X) → P x → Q x → S x) → (xs : List X) → AllByRecursion P xs → AllByRecursion Q xs → AllByRecursion S xs
 all_with P Q S f [] h k = tt
 all_with P Q S f (x ∷ xs) h k = (f x h.0 k.0, all_with P Q S f xs h.1 k.1)
 
-all_unmap : {X Y : Type 0} (P : Y → Type 0) (f : X → Y) (xs : List X) → All P (map f xs) → All (λ x. P (f x)) xs
+all_unmap : {X Y : Type 0} (P : Y → Type 0) (f : X → Y) (xs : List X) → AllByRecursion P (map f xs) → AllByRecursion (λ x. P (f x)) xs
 all_unmap P f [] h = tt
 all_unmap P f (x ∷ xs) h = (h.0, all_unmap P f xs h.1)
 
@@ -85,7 +85,7 @@ pigeons (suc n) (suc m) g below apart =
     omega arith
 
 module _ {K V : Type 0} (o : Ops K) (entry : V → ℕ → K) (n : ℕ) where
-  pub echelon_ones : (rows : List (Row V)) → Echelon o entry n rows → All (λ x. (x.0 < n) × (entry x.1 x.0 ≡ o.unit)) rows
+  pub echelon_ones : (rows : List (Row V)) → Echelon o entry n rows → AllByRecursion (λ x. (x.0 < n) × (entry x.1 x.0 ≡ o.unit)) rows
   echelon_ones [] h = tt
   echelon_ones (x ∷ rows) h = ((h.0, h.1), echelon_ones rows h.3)
 
@@ -115,7 +115,7 @@ module _ {K V : Type 0} (o : Ops K) (entry : V → ℕ → K) (n : ℕ) where
       → Echelon o entry n rows
       → x.0 < n
       → entry x.1 x.0 ≡ o.unit
-      → All (λ y. entry x.1 y.0 ≡ o.nil) rows
+      → AllByRecursion (λ y. entry x.1 y.0 ≡ o.nil) rows
       → Echelon o entry n (rows ++ (x ∷ []))
   echelon_push [] x h l one z = (l, one, tt, tt)
   echelon_push (y ∷ rows) x h l one z =
@@ -140,7 +140,7 @@ module _ {K : Type 0} {o : Ops K} (R : Ring o) where
   cleared_keeps p v x e = simp (cleared, e, prod_nil R, sum_nil)
 
   reduced_keeps :
-      (p : ℕ) (rows : List (Row (Vector K))) (v : Vector K) → All (λ y. y.1 p ≡ nil) rows → reduced o rows v p ≡ v p
+      (p : ℕ) (rows : List (Row (Vector K))) (v : Vector K) → AllByRecursion (λ y. y.1 p ≡ nil) rows → reduced o rows v p ≡ v p
   reduced_keeps p [] v h = refl
   reduced_keeps p (x ∷ rows) v h = reduced_keeps p rows (cleared o place_of v x) h.1 ∙ cleared_keeps p v x h.0
 
@@ -148,7 +148,7 @@ module _ {K : Type 0} {o : Ops K} (R : Ring o) where
   pub reduced_pivots :
       (n : ℕ) (rows : List (Row (Vector K))) (v : Vector K)
       → Echelon o place_of n rows
-      → All (λ x. reduced o rows v x.0 ≡ nil) rows
+      → AllByRecursion (λ x. reduced o rows v x.0 ≡ nil) rows
   reduced_pivots n [] v h = tt
   reduced_pivots n (x ∷ rows) v h = (
     reduced_keeps x.0 rows (cleared o place_of v x) h.2 ∙ cleared_pivot v x h.1,
@@ -230,7 +230,7 @@ module _ {K : Type 0} {o : Ops K} (R : Ring o) where
 
 -- The same of lists of codes. A vector is a list of n codes below the size.
 abbrev pub Coded : Algebra → ℕ → List ℕ → Type 0
-Coded A n v = (length v ≡ n) × All (λ c. c < A.size) v
+Coded A n v = (length v ≡ n) × AllByRecursion (λ c. c < A.size) v
 
 abbrev pub code_at : List ℕ → ℕ → ℕ
 code_at v i = get_or v i 0
@@ -250,15 +250,15 @@ abbrev pub new_row : Algebra → ℕ → List (Row (List ℕ)) → List ℕ → 
 new_row A n rows v p y = (p, scaled_codes A n y (reduced_codes A n rows v))
 
 pub record EchelonCodes (A : Algebra) (n : ℕ) (rows : List (Row (List ℕ))) : Type 0 where
-  pub coded : All (Coded A n) (vectors rows)
+  pub coded : AllByRecursion (Coded A n) (vectors rows)
   pub echelon : Echelon (ops A) code_at n rows
 
 -- Two lists of vectors, each of which is a sum of multiples of the other list's.
 pub record SameSums (A : Algebra) (n : ℕ) (us vs : List (List ℕ)) : Type 0 where
-  pub left : All (Coded A n) us
-  pub right : All (Coded A n) vs
-  pub of_left : All (SumOfMultiples A n us) vs
-  pub of_right : All (SumOfMultiples A n vs) us
+  pub left : AllByRecursion (Coded A n) us
+  pub right : AllByRecursion (Coded A n) vs
+  pub of_left : AllByRecursion (SumOfMultiples A n us) vs
+  pub of_right : AllByRecursion (SumOfMultiples A n vs) us
 
 module _ (A : Algebra) (L : Lawful A) (n : ℕ) where
   abbrev o : Ops (Code A.size)
@@ -286,7 +286,7 @@ module _ (A : Algebra) (L : Lawful A) (n : ℕ) where
   code_same : (c : ℕ) (x : Code A.size) → c ≡ plain x → code c ≡ x
   code_same c x e = code_path _ _ (ap (λ d. d % A.size) e ∙ mod-eq_of_lt x.1)
 
-  plain_codes : {X : Type 0} (f : X → ℕ) (xs : List X) → All (λ x. f x < A.size) xs → map plain (map (λ x. code (f x)) xs) ≡ map f xs
+  plain_codes : {X : Type 0} (f : X → ℕ) (xs : List X) → AllByRecursion (λ x. f x < A.size) xs → map plain (map (λ x. code (f x)) xs) ≡ map f xs
   plain_codes f [] h = refl
   plain_codes f (x ∷ xs) h = ap₂ ◌∷◌ (plain_code (f x) h.0) (plain_codes f xs h.1)
 
@@ -357,7 +357,7 @@ module _ (A : Algebra) (L : Lawful A) (n : ℕ) where
 
   pub reduced_coded :
       (rows : List (Row (List ℕ))) (v : List ℕ)
-      → All (Coded A n) (vectors rows)
+      → AllByRecursion (Coded A n) (vectors rows)
       → Coded A n v
       → Coded A n (reduced_codes A n rows v)
   reduced_coded [] v hs h = h
@@ -365,7 +365,7 @@ module _ (A : Algebra) (L : Lawful A) (n : ℕ) where
 
   lift_reduced :
       (rows : List (Row (List ℕ))) (v : List ℕ)
-      → All (Coded A n) (vectors rows)
+      → AllByRecursion (Coded A n) (vectors rows)
       → Coded A n v
       → lift (reduced_codes A n rows v) ≡ reduced o (map lift_row rows) (lift v)
   lift_reduced [] v hs h = refl
@@ -387,7 +387,7 @@ module _ (A : Algebra) (L : Lawful A) (n : ℕ) where
   )
 
   -- Sums of multiples of lists are spans of their vectors.
-  module _ (vs : List (List ℕ)) (hs : All (Coded A n) vs) where
+  module _ (vs : List (List ℕ)) (hs : AllByRecursion (Coded A n) vs) where
     plain_combined :
         (cs : List (Code A.size)) (i : ℕ)
         → plain (combined o cs (map lift vs) i) ≡ dot (ops A) (map plain cs) (map (λ w. code_at w i) vs)
@@ -400,7 +400,7 @@ module _ (A : Algebra) (L : Lawful A) (n : ℕ) where
     spanned_plain :
         (u : Vector (Code A.size))
         → Spanned o (map lift vs) u
-        → (cs : List ℕ) × (length cs ≡ length vs) × All (λ c. c < A.size) cs
+        → (cs : List ℕ) × (length cs ≡ length vs) × AllByRecursion (λ c. c < A.size) cs
         × ((i : ℕ) → plain (u i) ≡ dot (ops A) cs (map (λ w. code_at w i) vs))
     spanned_plain u s = (
       map plain s.0,
@@ -435,8 +435,8 @@ module _ (A : Algebra) (L : Lawful A) (n : ℕ) where
 
   same_sums_from_span :
       (us vs : List (List ℕ))
-      → All (Coded A n) us
-      → All (Coded A n) vs
+      → AllByRecursion (Coded A n) us
+      → AllByRecursion (Coded A n) vs
       → SameSpan o (map lift us) (map lift vs)
       → SameSums A n us vs
   same_sums_from_span us vs hu hv t =
@@ -501,7 +501,7 @@ module _ (A : Algebra) (L : Lawful A) (n : ℕ) where
 
       -- reducing changes the vector by a sum of multiples of the rows
       pub codes_changes :
-          (cs : List ℕ) × (length cs ≡ length (vectors rows)) × All (λ c. c < A.size) cs
+          (cs : List ℕ) × (length cs ≡ length (vectors rows)) × AllByRecursion (λ c. c < A.size) cs
           × ((i : ℕ)
           → code_at v i
           ≡ A.sum (dot (ops A) cs (map (λ w. code_at w i) (vectors rows))) (code_at (reduced_codes A n rows v) i))
@@ -511,7 +511,7 @@ module _ (A : Algebra) (L : Lawful A) (n : ℕ) where
           (s.0, s.1, s.2, λ i. cc (lift_plain v h i, ap plain (t.2 i), s.3 i, ap plain (lifted i), lift_plain w hw i))
 
       -- The reduced vector is zero at every pivot.
-      pub codes_pivots : All (λ x. code_at (reduced_codes A n rows v) x.0 ≡ 0) rows
+      pub codes_pivots : AllByRecursion (λ x. code_at (reduced_codes A n rows v) x.0 ≡ 0) rows
       codes_pivots =
           All-weaker _ (λ x. code_at w x.0 ≡ 0) (λ x e. unlift_nil w hw x.0 (sym (lifted x.0) ∙ e)) rows
           (all_unmap _ lift_row rows (reduced_pivots R n (map lift_row rows) (lift v) (lift_echelon rows E.echelon)))
@@ -536,7 +536,7 @@ module _ (A : Algebra) (L : Lawful A) (n : ℕ) where
         new_coded : Coded A n new
         new_coded = scaled_coded w hw y b
 
-        all_coded : All (Coded A n) (vectors rows ++ (new ∷ []))
+        all_coded : AllByRecursion (Coded A n) (vectors rows ++ (new ∷ []))
         all_coded = All-push _ (vectors rows) new E.coded new_coded
 
         lift_inverse : o.prod (reduced o (map lift_row rows) (lift v) p) (code y) ≡ o.unit

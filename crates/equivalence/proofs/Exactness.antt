@@ -2,7 +2,7 @@
 -- those of all lower trees. Assumes nothing.
 use Rattle.std.proofs.Common.{◌≡◌, ℕ, zero, suc, ◌<◌, ◌≤◌, leb, List, [], ◌∷◌, ◌++◌, map, length, get_or, take, filter, sym, refl, ap, ◌∙◌, subst, ap₂, subst₂, ⊎_elim, le_refl, arith, length-append}
 use lib.ListN.{length-map}
-use Rattle.std.specs.List.{ContainsAt as Has, AllByRecursion as All}
+use Rattle.std.specs.List.{ContainsAt as Has, AllByRecursion}
 use Rattle.std.proofs.lemmas.List.{length_push, get_or_append_left, get_or_push, map_push, take-append-le, take_at}
 use Rattle.std.proofs.ByRecursion.{All-map, All-weaker, All-get_or, All-from_get_or, all-has, has_append_left, has_push}
 use Rattle.std.proofs.lemmas.Bool.{cases_lt, cases_eq, le-leb, leb-true}
@@ -74,7 +74,7 @@ all_children :
     → (f : Forest)
     → AllOver ranks f
     → highest f ≤ g
-    → All Q (children f)
+    → AllByRecursion Q (children f)
 all_children ranks g Q h bare over l = tt
 all_children ranks g Q h (more t f) over l = (h t over.0 (omega arith), all_children ranks g Q h f over.1 (omega arith))
 
@@ -137,7 +137,7 @@ module _ (A : Algebra) (L : Lawful A) (S : Sides ℕ) (sa : Sound A.size S.a) (s
     agree : (i : ℕ) → suc i < length kept → (d : Tree) → Agree (get_or kept i d)
     free : (j : ℕ) (d : Vector K) → j < length kept → Spanned o (take j (map P kept)) (get_or (map P kept) j d) → ⊥
 
-  all_agree : (n : ℕ) (kept : List Tree) → Known n kept → (EndedDiffers A S kept → ⊥) → All Agree kept
+  all_agree : (n : ℕ) (kept : List Tree) → Known n kept → (EndedDiffers A S kept → ⊥) → AllByRecursion Agree kept
   all_agree n kept k on =
       All-from_get_or Agree kept (node 0 bare)
       (λ i l.
@@ -270,7 +270,7 @@ module _ (A : Algebra) (L : Lawful A) (S : Sides ℕ) (sa : Sound A.size S.a) (s
   -- a row of vectors of kept trees no higher than g is that of a row of their numbers
   numbered :
       (kept : List Tree) (g : ℕ) (row : List (Vector K))
-      → All (Has (map P (low g kept))) row
+      → AllByRecursion (Has (map P (low g kept))) row
       → (cs : List ℕ)
       × (length cs ≡ length row)
       × Within (length kept) cs
@@ -307,9 +307,9 @@ module _ (A : Algebra) (L : Lawful A) (S : Sides ℕ) (sa : Sound A.size S.a) (s
   closed n kept k zero all (node s f) over l = absurd (omega arith)
   closed n kept k (suc g) all (node s f) over l =
       let inner : TriedAll n kept g = λ x row d e w b. all x row d e w (omega arith) in
-      let kids : All (λ t. Low g kept (P t)) (children f) =
+      let kids : AllByRecursion (λ t. Low g kept (P t)) (children f) =
       all_children S.ranks g (λ t. Low g kept (P t)) (closed n kept k g inner) f over.2 (omega arith) in
-      let rows : (row : List (Vector K)) → length row ≡ rank S.ranks s → All (Has (map P (low g kept))) row → Low (suc g) kept (above R Ŝ s row) =
+      let rows : (row : List (Vector K)) → length row ≡ rank S.ranks s → AllByRecursion (Has (map P (low g kept))) row → Low (suc g) kept (above R Ŝ s row) =
       λ row e m.
       let c = numbered kept g row m in
       let low_enough = c.3 in
@@ -330,7 +330,7 @@ module _ (A : Algebra) (L : Lawful A) (S : Sides ℕ) (sa : Sound A.size S.a) (s
       ∙ value_b_is R Ŝ t
 
   -- values agree where those of the spanning trees do
-  agree_spanned : (us : List Tree) (t : Tree) → All Agree us → Spanned o (map P us) (P t) → Agree t
+  agree_spanned : (us : List Tree) (t : Tree) → AllByRecursion Agree us → Spanned o (map P us) (P t) → Agree t
   agree_spanned us t a s =
       lifted_value_a A L S sa sb t
       ∙ ap (λ (c : K). c.0)
@@ -343,7 +343,7 @@ module _ (A : Algebra) (L : Lawful A) (S : Sides ℕ) (sa : Sound A.size S.a) (s
   agree_low :
       (n : ℕ) (kept : List Tree)
       → Known n kept
-      → All Agree kept
+      → AllByRecursion Agree kept
       → (t : Tree)
       → Over S.ranks t
       → TriedAll n kept (height t)

@@ -1,6 +1,6 @@
 -- Kept trees and the rows of their numbers: heights, and what a row names. Assumes nothing.
 use Rattle.std.proofs.Common.{◌≡◌, ℕ, zero, suc, ◌<◌, ◌≤◌, true, eqb, List, [], ◌∷◌, ◌++◌, length, get_or, refl, ap, ◌∙◌, ap₂, ⊎_elim, le_of_eq, add-one, arith}
-use Rattle.std.specs.List.{AllByRecursion as All}
+use Rattle.std.specs.List.{AllByRecursion}
 use Rattle.std.proofs.lemmas.List.{get_or_append_left, get_or_push, length_push}
 use Rattle.std.proofs.ByRecursion.{All-get_or}
 use Rattle.std.proofs.lemmas.Bool.{or_cases, eqb-true, false≢true, cases_lt}
@@ -37,7 +37,7 @@ named_width kept m (zero ∷ row) h = absurd (let l = h.0.0 in omega arith)
 named_width kept m (suc c ∷ row) h = ap suc (named_width kept m row h.1)
 
 pub named_over :
-    (ranks : List ℕ) (kept : List Tree) (row : List ℕ) → All (Over ranks) kept → Within (length kept) row → AllOver ranks (named kept row)
+    (ranks : List ℕ) (kept : List Tree) (row : List ℕ) → AllByRecursion (Over ranks) kept → Within (length kept) row → AllOver ranks (named kept row)
 named_over ranks kept [] o h = tt
 named_over ranks kept (zero ∷ row) o h = tt
 named_over ranks kept (suc c ∷ row) o h = (All-get_or (Over ranks) kept c (node 0 bare) h.0.1 o, named_over ranks kept row o h.1)
@@ -72,7 +72,7 @@ named_high kept (suc i) row r l h e =
     let x = named_highest kept (suc i) row r l h in
     let y = named_occurs kept (suc i) (suc i) row h (e (omega arith)) in omega arith
 
-pub tall_below : (kept : List Tree) (h c : ℕ) → All (λ t. height t ≤ h) kept → c ≤ length kept → tall kept c ≤ h
+pub tall_below : (kept : List Tree) (h c : ℕ) → AllByRecursion (λ t. height t ≤ h) kept → c ≤ length kept → tall kept c ≤ h
 tall_below kept h zero a l = omega arith
 tall_below kept h (suc c) a l = All-get_or (λ t. height t ≤ h) kept c (node 0 bare) l a
 
@@ -80,7 +80,7 @@ pub rising_none : Rising []
 rising_none zero j h l = omega arith
 rising_none (suc i) j h l = absurd (omega arith)
 
-pub rising_push : (kept : List Tree) (t : Tree) → Rising kept → All (λ u. height u ≤ height t) kept → Rising (kept ++ (t ∷ []))
+pub rising_push : (kept : List Tree) (t : Tree) → Rising kept → AllByRecursion (λ u. height u ≤ height t) kept → Rising (kept ++ (t ∷ []))
 rising_push kept t r a i j h l =
     let e : length (kept ++ (t ∷ [])) ≡ suc (length kept) = length_push kept t ∙ add-one _ in
     ⊎_elim

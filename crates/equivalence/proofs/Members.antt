@@ -1,7 +1,7 @@
 -- Joined lists and filters: what they hold and how long they are; and the numbers 1 to n. Assumes nothing.
 use Rattle.std.proofs.Common.{◌≡◌, ℕ, zero, suc, ◌+◌, ◌*◌, ◌≤◌, Bool, true, false, cond, List, [], ◌∷◌, ◌++◌, map, length, fold, sum_by, filter, sym, refl, ap, ◌∙◌, subst, ⊎_elim, zero-mul, arith, length-append}
 use lib.ListN.{length-map}
-use Rattle.std.specs.List.{ContainsAt as Has, flat_map, AllByRecursion as All}
+use Rattle.std.specs.List.{ContainsAt as Has, flat_map, AllByRecursion}
 use Rattle.std.proofs.lemmas.List.{get_or-map, length_push}
 use Rattle.std.proofs.ByRecursion.{All-append, All-push, All-map, All-weaker, all-has, all_has_itself, has_append_left, has_append_right, has_push, all_kept_by, kept_by_passes}
 use Rattle.std.proofs.lemmas.List.Elements.{filter-append}
@@ -10,7 +10,7 @@ use Rattle.std.proofs.lemmas.Bool.{cases_eq}
 use Rattle.equivalence.specs.Automata.{numbers}
 
 module _ {X : Type 0} where
-  pub all_both : (P Q : X → Type 0) (xs : List X) → All P xs → All Q xs → All (λ x. P x × Q x) xs
+  pub all_both : (P Q : X → Type 0) (xs : List X) → AllByRecursion P xs → AllByRecursion Q xs → AllByRecursion (λ x. P x × Q x) xs
   all_both P Q [] h k = tt
   all_both P Q (x ∷ xs) h k = ((h.0, k.0), all_both P Q xs h.1 k.1)
 
@@ -18,12 +18,12 @@ module _ {X : Type 0} where
   kept_by_none [] = refl
   kept_by_none (x ∷ xs) = kept_by_none xs
 
-  kept_holds : (p : X → Bool) (xs : List X) → All (λ x. p x ≡ true → Has (filter p xs) x) xs
+  kept_holds : (p : X → Bool) (xs : List X) → AllByRecursion (λ x. p x ≡ true → Has (filter p xs) x) xs
   kept_holds p [] = tt
   kept_holds p (x ∷ xs) =
       let here : List X = filter p (x ∷ []) in
       let rest : List X = filter p xs in
-      subst (λ l. All (λ y. p y ≡ true → Has l y) (x ∷ xs)) (sym (filter-append p (x ∷ []) xs)) (
+      subst (λ l. AllByRecursion (λ y. p y ≡ true → Has l y) (x ∷ xs)) (sym (filter-append p (x ∷ []) xs)) (
         λ e. has_append_left here rest x (rw e (has_push [] x)),
         All-weaker _ _ (λ y h e. has_append_right here rest y (h e)) xs (kept_holds p xs),
       )
@@ -31,7 +31,7 @@ module _ {X : Type 0} where
   pub has_kept_by : (p : X → Bool) (xs : List X) (x : X) → Has xs x → p x ≡ true → Has (filter p xs) x
   has_kept_by p xs x = all-has (λ x. p x ≡ true → Has (filter p xs) x) xs x (kept_holds p xs)
 
-  pub all_from_has : (P : X → Type 0) (xs : List X) → ((x : X) → Has xs x → P x) → All P xs
+  pub all_from_has : (P : X → Type 0) (xs : List X) → ((x : X) → Has xs x → P x) → AllByRecursion P xs
   all_from_has P xs h = All-weaker (Has xs) P h xs (all_has_itself xs)
 
   pub kept_by_has : (p : X → Bool) (xs : List X) (x : X) → Has (filter p xs) x → Has xs x × (p x ≡ true)
@@ -69,11 +69,11 @@ module _ {X Y : Type 0} (f : X → Y) where
   folded_map g z (x ∷ xs) = folded_map g (g z (f x)) xs
 
 module _ {X A : Type 0} (f : X → List A) where
-  pub all_joined : (P : A → Type 0) (xs : List X) → All (λ x. All P (f x)) xs → All P (flat_map f xs)
+  pub all_joined : (P : A → Type 0) (xs : List X) → AllByRecursion (λ x. AllByRecursion P (f x)) xs → AllByRecursion P (flat_map f xs)
   all_joined P [] h = tt
   all_joined P (x ∷ xs) h = All-append P (f x) (flat_map f xs) h.0 (all_joined P xs h.1)
 
-  joined_holds : (xs : List X) → All (λ x. (a : A) → Has (f x) a → Has (flat_map f xs) a) xs
+  joined_holds : (xs : List X) → AllByRecursion (λ x. (a : A) → Has (f x) a → Has (flat_map f xs) a) xs
   joined_holds [] = tt
   joined_holds (x ∷ xs) = (
     has_append_left (f x) (flat_map f xs),
@@ -83,7 +83,7 @@ module _ {X A : Type 0} (f : X → List A) where
   pub has_joined : (xs : List X) (x : X) (a : A) → Has xs x → Has (f x) a → Has (flat_map f xs) a
   has_joined xs x a h = all-has (λ x. (a : A) → Has (f x) a → Has (flat_map f xs) a) xs x (joined_holds xs) h a
 
-  pub joined_same : (g : X → List A) (xs : List X) → All (λ x. f x ≡ g x) xs → flat_map f xs ≡ flat_map g xs
+  pub joined_same : (g : X → List A) (xs : List X) → AllByRecursion (λ x. f x ≡ g x) xs → flat_map f xs ≡ flat_map g xs
   joined_same g [] h = refl
   joined_same g (x ∷ xs) h = rw (h.0, joined_same g xs h.1)
 
@@ -99,7 +99,7 @@ pub length_numbers : (n : ℕ) → length (numbers n) ≡ n
 length_numbers zero = refl
 length_numbers (suc n) = rw (length_push, length_numbers n) (omega arith)
 
-pub all_numbers : (P : ℕ → Type 0) (n : ℕ) → ((c : ℕ) → (1 ≤ c) × (c ≤ n) → P c) → All P (numbers n)
+pub all_numbers : (P : ℕ → Type 0) (n : ℕ) → ((c : ℕ) → (1 ≤ c) × (c ≤ n) → P c) → AllByRecursion P (numbers n)
 all_numbers P zero f = tt
 all_numbers P (suc n) f =
     All-push P (numbers n) (suc n) (all_numbers P n (λ c h. f c (omega arith))) (f (suc n) (omega arith))

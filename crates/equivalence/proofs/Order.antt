@@ -4,7 +4,7 @@ use mathlib.Core.Path.{fun_ext}
 use native.Mathlib.Nat.{pow-zero, pow-succ', pow-le-pow_left}
 use lib.ListN.{length-map}
 use lib.Seq.{take-length}
-use Rattle.std.specs.List.{ContainsAt as Has, AllByRecursion as All}
+use Rattle.std.specs.List.{ContainsAt as Has, AllByRecursion}
 use Rattle.std.proofs.lemmas.List.{append-nil, map_push, flat_map_more, get_or_append_left, get_or-append_right}
 use Rattle.std.proofs.ByRecursion.{All-map, All-weaker, All-get_or, all_kept_by, kept_by_passes, has_append_left, has_append_right, has_push}
 use Rattle.std.proofs.lemmas.List.Filters.{length-filter_both}
@@ -19,7 +19,7 @@ use Rattle.equivalence.proofs.Members.{length_joined, length_numbers, sumBy_cons
 
 -- the numbers of a row lie from 1 to m
 abbrev pub Within : ℕ → List ℕ → Type 0
-Within m row = All (λ c. (1 ≤ c) × (c ≤ m)) row
+Within m row = AllByRecursion (λ c. (1 ≤ c) × (c ≤ m)) row
 
 -- the rows with c in front
 abbrev headed : List (List ℕ) → ℕ → List (List ℕ)
@@ -186,15 +186,15 @@ TurnRow i k row = Row k i row × (1 ≤ i → occurs i row ≡ true)
 abbrev TurnTry : List ℕ → ℕ → Try → Type 0
 TurnTry ranks i y = Declared ranks y.symbol × TurnRow i (rank ranks y.symbol) y.row
 
-all_rows : (k i : ℕ) → All (Row k i) (rows k i)
+all_rows : (k i : ℕ) → AllByRecursion (Row k i) (rows k i)
 all_rows zero i = ((refl, tt), tt)
 all_rows (suc k) i =
-    let longer : (c : ℕ) → (1 ≤ c) × (c ≤ i) → All (λ row. Row (suc k) i (c ∷ row)) (rows k i) =
+    let longer : (c : ℕ) → (1 ≤ c) × (c ≤ i) → AllByRecursion (λ row. Row (suc k) i (c ∷ row)) (rows k i) =
     λ c h. All-weaker (Row k i) _ (λ row r. (ap suc r.0, (h, r.1))) (rows k i) (all_rows k i) in
     all_joined (headed (rows k i)) (Row (suc k) i) (numbers i)
     (all_numbers _ i (λ c h. All-map (Row (suc k) i) (λ row. c ∷ row) (rows k i) (longer c h)))
 
-all_rows_in_turn : (i k : ℕ) → All (TurnRow i k) (rows_in_turn i k)
+all_rows_in_turn : (i k : ℕ) → AllByRecursion (TurnRow i k) (rows_in_turn i k)
 all_rows_in_turn zero zero = (((refl, tt), λ h. absurd (omega arith)), tt)
 all_rows_in_turn zero (suc k) = tt
 all_rows_in_turn (suc i) zero = tt
@@ -205,7 +205,7 @@ all_rows_in_turn (suc i) (suc k) =
     (all_kept_by p (Row (suc k) (suc i)) rs (all_rows (suc k) (suc i)))
     (All-weaker (λ row. p row ≡ true) _ (λ row e _. e) (filter p rs) (kept_by_passes p rs))
 
-all_turn : (ranks : List ℕ) (i : ℕ) → All (TurnTry ranks i) (turn ranks i)
+all_turn : (ranks : List ℕ) (i : ℕ) → AllByRecursion (TurnTry ranks i) (turn ranks i)
 all_turn ranks i =
     all_joined (tries_in ranks i) (TurnTry ranks i) (numbers (length ranks))
     (all_numbers _ (length ranks) (λ s dec. All-map (TurnTry ranks i) (λ row. record { symbol = s; row = row }) _

@@ -1,6 +1,6 @@
 -- What every exploration keeps true of its kept trees, in the order of its tries. Assumes nothing.
 use Rattle.std.proofs.Common.{◌≡◌, ℕ, suc, ◌<◌, ◌≤◌, List, [], ◌∷◌, ◌++◌, length, ap, ◌∙◌, ⊎_elim, add-one, arith, length-append}
-use Rattle.std.specs.List.{AllByRecursion as All}
+use Rattle.std.specs.List.{AllByRecursion}
 use Rattle.std.proofs.lemmas.List.{length_push}
 use Rattle.std.proofs.ByRecursion.{All-push, All-weaker}
 use Rattle.std.proofs.lemmas.Bool.{cases_lt}
@@ -15,9 +15,9 @@ module _ (ranks : List ℕ) where
   -- order of height, and where no turn after the m-th was begun none is more than one higher than the m-th.
   pub record Grown (n : ℕ) (kept : List Tree) : Type 0 where
     pub made : n ≤ length (turns ranks (length kept))
-    pub over : All (Over ranks) kept
+    pub over : AllByRecursion (Over ranks) kept
     pub rising : Rising kept
-    pub capped : (m : ℕ) → m ≤ length kept → n ≤ length (turns ranks m) → All (λ t. height t ≤ suc (tall kept m)) kept
+    pub capped : (m : ℕ) → m ≤ length kept → n ≤ length (turns ranks m) → AllByRecursion (λ t. height t ≤ suc (tall kept m)) kept
 
   -- the next tree is over the symbols, and one higher than the tree of its turn
   pub record Next (n : ℕ) (kept : List Tree) : Type 0 where
@@ -54,7 +54,7 @@ module _ (ranks : List ℕ) where
   turns_grow m = simp length-append (omega arith)
 
   -- none of the kept trees is higher than the next
-  pub next_highest : (n : ℕ) (kept : List Tree) (g : Grown n kept) (x : Next n kept) → All (λ t. height t ≤ height (built kept (next ranks n kept))) kept
+  pub next_highest : (n : ℕ) (kept : List Tree) (g : Grown n kept) (x : Next n kept) → AllByRecursion (λ t. height t ≤ height (built kept (next ranks n kept))) kept
   next_highest n kept g x =
       let p = x.place in
       let b = p.before in

@@ -1,6 +1,6 @@
 -- Functionals and multilinear maps on spans, and the number of independent vectors. Assumes nothing.
 use Rattle.std.proofs.Common.{◌≡◌, ℕ, zero, suc, ◌+◌, ◌<◌, ◌≤◌, ◌⊎◌, List, [], ◌∷◌, ◌++◌, map, length, get_or, take, sym, refl, ap, ◌∙◌, subst, inl, inr, ⊎_elim, arith, length-append, take-suc}
-use Rattle.std.specs.List.{ContainsAt as Has, AllByRecursion as All}
+use Rattle.std.specs.List.{ContainsAt as Has, AllByRecursion}
 use Rattle.std.proofs.lemmas.List.{append-nil, append_assoc, length_push, length-map, length-take-le, map_push}
 use Rattle.std.proofs.ByRecursion.{All-weaker, All-map, All-push, all_has_itself, All-take}
 use Rattle.std.proofs.lemmas.Bool.{cases_lt}
@@ -31,7 +31,7 @@ module _ {K : Type 0} {o : Ops K} (R : Ring o) where
       → Functional o f
       → Functional o g
       → (vs : List (Vector K)) (v : Vector K)
-      → All (λ w. f w ≡ g w) vs
+      → AllByRecursion (λ w. f w ≡ g w) vs
       → Spanned o vs v
       → f v ≡ g v
   functionals_agree f g lf lg vs v h s =
@@ -40,13 +40,13 @@ module _ {K : Type 0} {o : Ops K} (R : Ring o) where
   -- A multilinear map of rows of vectors from a span lies where its values at rows of the spanning vectors lie.
   module _
       (f : List (Vector K) → Vector K) (lf : Multilinear o f) (us vs : List (Vector K)) (k : ℕ)
-      (at : (row : List (Vector K)) → length row ≡ k → All (Has vs) row → Spanned o us (f row)) where
+      (at : (row : List (Vector K)) → length row ≡ k → AllByRecursion (Has vs) row → Spanned o us (f row)) where
     -- a front of spanning vectors, and a rest from their span
     spanned_rest :
         (done rest : List (Vector K))
         → length (done ++ rest) ≡ k
-        → All (Has vs) done
-        → All (Spanned o vs) rest
+        → AllByRecursion (Has vs) done
+        → AllByRecursion (Spanned o vs) rest
         → Spanned o us (f (done ++ rest))
     spanned_rest done [] l m h = subst (λ row. Spanned o us (f row)) (sym (append-nil done)) (at done (ap length (sym (append-nil done)) ∙ l) m)
     spanned_rest done (v ∷ rest) l m h =
@@ -63,10 +63,10 @@ module _ {K : Type 0} {o : Ops K} (R : Ring o) where
       (f : List (Vector K) → Vector K)
       → Multilinear o f
       → (us vs : List (Vector K)) (k : ℕ)
-      → ((row : List (Vector K)) → length row ≡ k → All (Has vs) row → Spanned o us (f row))
+      → ((row : List (Vector K)) → length row ≡ k → AllByRecursion (Has vs) row → Spanned o us (f row))
       → (row : List (Vector K))
       → length row ≡ k
-      → All (Spanned o vs) row
+      → AllByRecursion (Spanned o vs) row
       → Spanned o us (f row)
   spanned_rows f lf us vs k at row l h = spanned_rest f lf us vs k at [] row l tt h
 
@@ -92,11 +92,11 @@ module _ {K : Type 0} {o : Ops K} (R : Ring o) where
     Basis : ℕ → List (Vector K) → Type 0
     Basis n vs =
         (rows : List (Row (Vector K))) × Echelon o place_of n rows × (length rows ≡ length vs)
-        × All (Spanned o vs) (vectors rows)
+        × AllByRecursion (Spanned o vs) (vectors rows)
 
     basis_push :
         (n : ℕ) (vs : List (Vector K)) (v : Vector K)
-        → All (λ w. (i : ℕ) → n ≤ i → w i ≡ o.nil) (vs ++ (v ∷ []))
+        → AllByRecursion (λ w. (i : ℕ) → n ≤ i → w i ≡ o.nil) (vs ++ (v ∷ []))
         → (Spanned o vs v → ⊥)
         → Basis n vs
         → Basis n (vs ++ (v ∷ []))
@@ -131,7 +131,7 @@ module _ {K : Type 0} {o : Ops K} (R : Ring o) where
 
     pub independent_few :
         (n : ℕ) (vs : List (Vector K))
-        → All (λ v. (i : ℕ) → n ≤ i → v i ≡ o.nil) vs
+        → AllByRecursion (λ v. (i : ℕ) → n ≤ i → v i ≡ o.nil) vs
         → ((j : ℕ) (d : Vector K) → j < length vs → Spanned o (take j vs) (get_or vs j d) → ⊥)
         → length vs ≤ n
     unfolding Basis
@@ -149,5 +149,5 @@ module _ {K : Type 0} {o : Ops K} (R : Ring o) where
         go (suc j) l =
             subst (Basis n) (sym (take-suc (v ∷ vs) j v l))
             (basis_push n (take j (v ∷ vs)) (get_or (v ∷ vs) j v)
-            (subst (All (λ w. (i : ℕ) → n ≤ i → w i ≡ o.nil)) (take-suc (v ∷ vs) j v l) (All-take _ (suc j) (v ∷ vs) short))
+            (subst (AllByRecursion (λ w. (i : ℕ) → n ≤ i → w i ≡ o.nil)) (take-suc (v ∷ vs) j v l) (All-take _ (suc j) (v ∷ vs) short))
             (free j v l) (go j (omega arith)))

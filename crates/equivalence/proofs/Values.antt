@@ -4,7 +4,7 @@ use mathlib.Core.Path.{fun_ext}
 use mathlib.Core.List.{map-map}
 use lib.ListN
 use lib.ListN.{length-map}
-use Rattle.std.specs.List.{AllByRecursion as All}
+use Rattle.std.specs.List.{AllByRecursion}
 use Rattle.std.proofs.lemmas.List.{length-append, get_or_append_left, get_or-append-add, get_or-map, get_or_past}
 use Rattle.std.proofs.ByRecursion.{All-weaker, all_kept_by}
 use Rattle.std.proofs.lemmas.Bool.{cases_lt}
@@ -31,7 +31,7 @@ place o S t i = get_or (joined_vector o S t) i o.nil
 
 -- every rule's child states are states of its automaton
 abbrev pub Bounded : {K : Type 0} → Automaton K → Type 0
-Bounded M = All (λ r. All (λ s. (1 ≤ s) × (s ≤ states M)) r.children) M.rules
+Bounded M = AllByRecursion (λ r. AllByRecursion (λ s. (1 ≤ s) × (s ≤ states M)) r.children) M.rules
 
 -- s is one of n states
 abbrev pub State : ℕ → ℕ → Type 0
@@ -42,7 +42,7 @@ pub element_by :
     {K : Type 0} (o : Ops K) (M : Automaton K)
     → Bounded M
     → (x : ℕ) (f : Forest) (g : List ℕ → K)
-    → ((ss : List ℕ) → All (State (states M)) ss → along o M.rules f ss ≡ g ss)
+    → ((ss : List ℕ) → AllByRecursion (State (states M)) ss → along o M.rules f ss ≡ g ss)
     → (s : ℕ)
     → element o M.rules (node x f) s ≡ total o (map (λ r. o.prod r.weight (g r.children)) (leading M.rules x s))
 element_by o M b x f g same s =
@@ -74,7 +74,7 @@ module _ {K : Type 0} (o : Ops K) (n : ℕ) where
   module _
       (M : Automaton K) (v : Tree → Vector K)
       (at : (t : Tree) (s : ℕ) → State (states M) s → element o M.rules t s ≡ read s (v t)) where
-    along_across : (f : Forest) (ss : List ℕ) → All (State (states M)) ss → along o M.rules f ss ≡ across (map v (children f)) ss
+    along_across : (f : Forest) (ss : List ℕ) → AllByRecursion (State (states M)) ss → along o M.rules f ss ≡ across (map v (children f)) ss
     along_across bare [] h = refl
     along_across bare (s ∷ ss) h = refl
     along_across (more t f) [] h = refl
@@ -200,13 +200,13 @@ module _ (q : ℕ) where
   abbrev number : Code q → ℕ
   number c = c.0
 
-  abbrev codes : (xs : List ℕ) → All (λ x. x < q) xs → List (Code q)
+  abbrev codes : (xs : List ℕ) → AllByRecursion (λ x. x < q) xs → List (Code q)
   codes = made (λ x. x < q) (λ x h. (x, h))
 
-  codes_numbers : (xs : List ℕ) (h : All (λ x. x < q) xs) → map number (codes xs h) ≡ xs
+  codes_numbers : (xs : List ℕ) (h : AllByRecursion (λ x. x < q) xs) → map number (codes xs h) ≡ xs
   codes_numbers = map_made (λ x. x < q) (λ x h. (x, h)) number (λ x h. refl)
 
-  numbers_below : (cs : List (Code q)) → All (λ x. x < q) (map number cs)
+  numbers_below : (cs : List (Code q)) → AllByRecursion (λ x. x < q) (map number cs)
   numbers_below [] = tt
   numbers_below (c ∷ cs) = (c.1, numbers_below cs)
 

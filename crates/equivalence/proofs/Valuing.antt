@@ -1,7 +1,7 @@
 -- Vectors worked out entry by entry are those of the entries' trees. Assumes nothing.
 use Rattle.std.proofs.Common.{◌≡◌, ℕ, zero, suc, ◌+◌, ◌-◌, ◌≤◌, List, [], ◌∷◌, ◌++◌, map, length, get_or, take, drop, sym, refl, ap, ◌∙◌, ap₂, add-one, arith, take-append-drop}
 use mathlib.Core.Path.{fun_ext}
-use Rattle.std.specs.List.{AllByRecursion as All}
+use Rattle.std.specs.List.{AllByRecursion}
 use Rattle.std.proofs.lemmas.List.{get_or-map, map_push, length_push}
 use Rattle.std.proofs.ByRecursion.{All-append, All-weaker}
 use Rattle.field.specs.Ops.{Ops, dot}
@@ -36,7 +36,7 @@ last_map f x (t ∷ []) h = refl
 last_map f x (t ∷ u ∷ ts) h = last_map f x (u ∷ ts) (omega arith)
 
 -- every child number of an entry is 0 or names an earlier entry
-pub children_earlier : (ranks : List ℕ) (n : ℕ) (e : Entry) → Laid_out ranks n e → All (λ c. c ≤ n) e.children
+pub children_earlier : (ranks : List ℕ) (n : ℕ) (e : Entry) → Laid_out ranks n e → AllByRecursion (λ c. c ≤ n) e.children
 children_earlier ranks n e h =
     let k = rank ranks e.symbol in
     rw (← take-append-drop k e.children)
@@ -57,8 +57,8 @@ module _ {K : Type 0} (o : Ops K) (M : Automaton K) where
 
   along_through :
       (ts : List Tree) (cs ss : List ℕ)
-      → All (λ c. c ≤ length ts) cs
-      → All (State (states M)) ss
+      → AllByRecursion (λ c. c ≤ length ts) cs
+      → AllByRecursion (State (states M)) ss
       → along o M.rules (named ts cs) ss ≡ through o (map (vector o M) ts) cs ss
   along_through ts [] [] h k = refl
   along_through ts [] (s ∷ ss) h k = refl

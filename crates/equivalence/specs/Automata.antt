@@ -1,6 +1,6 @@
 -- Multiplicity tree automata and the tree series that they recognize, over any commutative ring's operations.
 use Rattle.std.specs.Prelude.{ℕ, zero, suc, ◌+◌, ◌<◌, ◌≤◌, ◌&&◌, List, [], ◌∷◌, ◌++◌, map, length, filter, ◌==◌}
-use Rattle.std.specs.List.{AllByRecursion as All}
+use Rattle.std.specs.List.{AllByRecursion}
 use Rattle.field.specs.Ops.{Ops, total, dot}
 use Rattle.equivalence.specs.Trees.{Tree, Forest, node, bare, more}
 
@@ -65,8 +65,8 @@ dimension S = states S.a + states S.b
 -- An automaton over codes below q: its weights are such codes, and its rules' child states are states of its own.
 pub record SoundRule (q n : ℕ) (r : Rule ℕ) : Type 0 where
   pub weight : r.weight < q
-  pub children : All (λ s. (1 ≤ s) × (s ≤ n)) r.children
+  pub children : AllByRecursion (λ s. (1 ≤ s) × (s ≤ n)) r.children
 
 pub record Sound (q : ℕ) (M : Automaton ℕ) : Type 0 where
-  pub finals : All (λ w. w < q) M.finals
-  pub rules : All (SoundRule q (states M)) M.rules
+  pub finals : AllByRecursion (λ w. w < q) M.finals
+  pub rules : AllByRecursion (SoundRule q (states M)) M.rules

@@ -1,6 +1,6 @@
 -- A tree as a list of entries, numbered from 1: each is a symbol over earlier entries, and the last is the root.
 use Rattle.std.specs.Prelude.{◌≡◌, ℕ, zero, suc, ◌≤◌, List, [], ◌∷◌, ◌++◌, length, take, drop, slice_index_or}
-use Rattle.std.specs.List.{AllByRecursion as All}
+use Rattle.std.specs.List.{AllByRecursion}
 use Rattle.equivalence.specs.Trees.{Tree, Forest, node, bare, more, rank, Declared}
 
 pub record Entry : Type 0 where
@@ -35,8 +35,8 @@ tree_of es = last_of (trees es)
 pub record Laid_out (ranks : List ℕ) (n : ℕ) (e : Entry) : Type 0 where
   pub declared : Declared ranks e.symbol
   pub three : length e.children ≡ 3
-  pub named : All (λ c. (1 ≤ c) × (c ≤ n)) (take (rank ranks e.symbol) e.children)
-  pub rest : All (λ c. c ≡ 0) (drop (rank ranks e.symbol) e.children)
+  pub named : AllByRecursion (λ c. (1 ≤ c) × (c ≤ n)) (take (rank ranks e.symbol) e.children)
+  pub rest : AllByRecursion (λ c. c ≡ 0) (drop (rank ranks e.symbol) e.children)
 
 abbrev pub LaidOutFrom : List ℕ → ℕ → List Entry → Type 0
 LaidOutFrom ranks n [] = Unit {0}

@@ -1,6 +1,6 @@
 -- The text of a valid record is short: at most 556 lines of at most 78 bytes. Assumes nothing.
 use Rattle.std.proofs.Common.{◌≡◌, ℕ, ◌-◌, ◌*◌, ◌≤◌, true, List, [], ◌∷◌, map, length, arith}
-use Rattle.std.specs.List.{AllByRecursion as All}
+use Rattle.std.specs.List.{AllByRecursion}
 use Rattle.std.proofs.lemmas.List.{length-append, length-map}
 use Rattle.std.proofs.ByRecursion.{All-append, All-map, All-weaker, All-get_or}
 use Rattle.shapes.specs.declared.shape.Kind.TheVariants.{Residues, Bytes}
@@ -28,7 +28,7 @@ Few (gives_rule d s t w cs) = length cs ≤ 3
 name_short : (s : List ℕ) → is_name s ≡ true → Short s
 name_short s h = omega (arith, (named s h).short)
 
-heading_short : (b : Block) → All Short (heading b)
+heading_short : (b : Block) → AllByRecursion Short (heading b)
 heading_short fields = omega arith
 heading_short steps = omega arith
 heading_short symbols = omega arith
@@ -39,7 +39,7 @@ letter_short : (d : Side) → Short (letter d)
 letter_short A = omega arith
 letter_short B = omega arith
 
-fields_short : (l : Line) → Formed l → All Short (line_fields l)
+fields_short : (l : Line) → Formed l → AllByRecursion Short (line_fields l)
 fields_short (opens b) h = heading_short b
 fields_short (names_field (Residues p) n) h = (omega arith, (decimal_short p h.0, (decimal_short n (omega arith), tt)))
 fields_short (names_field Bytes n) h = (omega arith, (omega arith, (decimal_short n (omega arith), tt)))
@@ -64,7 +64,7 @@ fields_few (declares_symbol s k) h = omega arith
 fields_few (declares_state d s w) h = omega arith
 fields_few (gives_rule d s t w cs) h = omega arith
 
-spaced_short : (fs : List (List ℕ)) → All Short fs → length (spaced fs) ≤ 11 * length fs
+spaced_short : (fs : List (List ℕ)) → AllByRecursion Short fs → length (spaced fs) ≤ 11 * length fs
 spaced_short [] h = omega arith
 spaced_short (f ∷ []) h = omega arith
 spaced_short (f ∷ g ∷ fs) h =
@@ -74,18 +74,18 @@ spaced_short (f ∷ g ∷ fs) h =
 line_short : (l : Line) → Formed l → Few l → length (written l) ≤ 77
 line_short l f h = omega (arith, spaced_short (line_fields l) (fields_short l f), fields_few l h)
 
-lines_short : (ls : List Line) → All Formed ls → All Few ls → length (text_of_lines ls) ≤ 78 * length ls
+lines_short : (ls : List Line) → AllByRecursion Formed ls → AllByRecursion Few ls → length (text_of_lines ls) ≤ 78 * length ls
 lines_short [] f h = omega arith
 lines_short (l ∷ ls) f h =
     let more = lines_short ls f.1 h.1 in
     let here = line_short l f.0 h.0 in
     simp length-append (omega arith)
 
-reads_formed : (d : Draft) (ls : List Line) (e : Draft) → Reads d ls e → All Formed ls
+reads_formed : (d : Draft) (ls : List Line) (e : Draft) → Reads d ls e → AllByRecursion Formed ls
 reads_formed d [] e r = tt
 reads_formed d (l ∷ ls) e r = (r.0, reads_formed (after d l) ls e r.3)
 
-all_mapped : {X : Type 0} (line : X → Line) → ((x : X) → Few (line x)) → (xs : List X) → All Few (map line xs)
+all_mapped : {X : Type 0} (line : X → Line) → ((x : X) → Few (line x)) → (xs : List X) → AllByRecursion Few (map line xs)
 all_mapped line h [] = tt
 all_mapped line h (x ∷ xs) = (h x, all_mapped line h xs)
 
@@ -95,7 +95,7 @@ module _ (r : Record) (v : ValidRecord r) where
       simp (length-append, length-map)
       (omega (arith, v.at_most_two, v.few, v.a.few, v.b.few, v.a.few_rules, v.b.few_rules))
 
-  states_few : (x : Side) → All Few (state_lines r x)
+  states_few : (x : Side) → AllByRecursion Few (state_lines r x)
   states_few x = all_mapped (λ (s : State). declares_state x s.name s.final) (λ s. tt) (part r x).states
 
   rule_few : (x : Side) (n : ℕ) (u : Rule ℕ) → ValidRule (field_of r).size r.symbols n u → Few (rule_line r x u)
@@ -104,10 +104,10 @@ module _ (r : Record) (v : ValidRecord r) where
       let rank = All-get_or (λ k. k ≤ 3) _ (u.symbol - 1) 0 (simp length-map (omega (arith, h.symbol))) ranks in
       simp length-map (omega (arith, h.rank))
 
-  rules_few : (x : Side) → ValidPart (field_of r).size r.symbols (part r x) → All Few (rule_lines r x)
+  rules_few : (x : Side) → ValidPart (field_of r).size r.symbols (part r x) → AllByRecursion Few (rule_lines r x)
   rules_few x f = All-map Few (rule_line r x) _ (All-weaker _ _ (rule_few x _) _ f.rules)
 
-  all_few : All Few (lines_of r)
+  all_few : AllByRecursion Few (lines_of r)
   all_few = (
     tt,
     (

@@ -1,6 +1,6 @@
 -- Names and their numbers: a declared name is found again by its number, and a number by its name. Assumes nothing.
 use Rattle.std.proofs.Common.{◌≡◌, ℕ, zero, suc, ◌-◌, ◌<◌, ◌≤◌, ◌⊎◌, List, [], ◌∷◌, ◌++◌, map, length, get_or, Decides, sym, refl, ap, ◌∙◌, ap₂, inl, inr, ⊎_elim, arith}
-use Rattle.std.specs.List.{AllByRecursion as All}
+use Rattle.std.specs.List.{AllByRecursion}
 use Rattle.std.proofs.ByRecursion.{All-get_or, All-push, All-map, All-weaker}
 use Rattle.std.proofs.lemmas.Slice.Eq.{compares_Decides}
 use Rattle.std.proofs.lemmas.Bool.{cases_Bool, cond-true, cond-false, both_ways}
@@ -38,11 +38,11 @@ or_none_most zero = omega arith
 or_none_most (suc n) = omega arith
 
 -- a number is 0 exactly where the name is not among the names
-pub undeclared_from_all : (names : List (List ℕ)) (x : List ℕ) → All (λ y. y ≡ x → ⊥) names → Undeclared names x
+pub undeclared_from_all : (names : List (List ℕ)) (x : List ℕ) → AllByRecursion (λ y. y ≡ x → ⊥) names → Undeclared names x
 undeclared_from_all [] x h = refl
 undeclared_from_all (y ∷ ys) x h = number_later y ys x h.0 ∙ ap or_none (undeclared_from_all ys x h.1)
 
-pub all_from_undeclared : (names : List (List ℕ)) (x : List ℕ) → Undeclared names x → All (λ y. y ≡ x → ⊥) names
+pub all_from_undeclared : (names : List (List ℕ)) (x : List ℕ) → Undeclared names x → AllByRecursion (λ y. y ≡ x → ⊥) names
 all_from_undeclared [] x h = tt
 all_from_undeclared (y ∷ ys) x h =
     let apart : y ≡ x → ⊥ = λ e. omega (arith, number_here y ys x e, h) in
@@ -113,11 +113,11 @@ number_append (y ∷ ys) more x h =
 pub distinct_push : (names : List (List ℕ)) (x : List ℕ) → Distinct names → Undeclared names x → Distinct (names ++ (x ∷ []))
 distinct_push names x d u = push names d (all_from_undeclared names x u)
   where
-    push : (ys : List (List ℕ)) → Distinct ys → All (λ y. y ≡ x → ⊥) ys → Distinct (ys ++ (x ∷ []))
+    push : (ys : List (List ℕ)) → Distinct ys → AllByRecursion (λ y. y ≡ x → ⊥) ys → Distinct (ys ++ (x ∷ []))
     push [] d a = (tt, tt)
     push (y ∷ ys) d a = (All-push _ ys x d.0 (λ e. a.0 (sym e)), push ys d.1 a.1)
 
-pub all_middle : {X : Type 0} (P : X → Type 0) (xs : List X) (x : X) (more : List X) → All P (xs ++ (x ∷ more)) → P x
+pub all_middle : {X : Type 0} (P : X → Type 0) (xs : List X) (x : X) (more : List X) → AllByRecursion P (xs ++ (x ∷ more)) → P x
 all_middle P [] x more h = h.0
 all_middle P (y ∷ ys) x more h = all_middle P ys x more h.1
 
@@ -127,14 +127,14 @@ pub undeclared_before :
     → Undeclared names x
 undeclared_before names x more d = undeclared_from_all names x (before names d)
   where
-    before : (ys : List (List ℕ)) → Distinct (ys ++ (x ∷ more)) → All (λ y. y ≡ x → ⊥) ys
+    before : (ys : List (List ℕ)) → Distinct (ys ++ (x ∷ more)) → AllByRecursion (λ y. y ≡ x → ⊥) ys
     before [] d = tt
     before (y ∷ ys) d = (λ e. all_middle (λ z. z ≡ y → ⊥) ys x more d.0 (sym e), before ys d.1)
 
 -- names to numbers and back
 pub names_of_numbers :
     (names xs : List (List ℕ))
-    → All (Declared names) xs
+    → AllByRecursion (Declared names) xs
     → map (λ (k : ℕ). get_or names (k - 1) []) (map (number_of names) xs) ≡ xs
 names_of_numbers names [] h = refl
 names_of_numbers names (x ∷ xs) h = ap₂ (λ y ys. y ∷ ys) (name_of_number names x h.0) (names_of_numbers names xs h.1)
@@ -143,7 +143,7 @@ pub numbers_of_names :
     (names : List (List ℕ))
     → Distinct names
     → (ks : List ℕ)
-    → All (NumbersOneOf (length names)) ks
+    → AllByRecursion (NumbersOneOf (length names)) ks
     → map (number_of names) (map (λ (k : ℕ). get_or names (k - 1) []) ks) ≡ ks
 numbers_of_names names d [] h = refl
 numbers_of_names names d (k ∷ ks) h = ap₂ (λ y ys. y ∷ ys) (number_of_name names d k h.0) (numbers_of_names names d ks h.1)
@@ -153,8 +153,8 @@ numbers_one names x h = (h, number_most names x)
 
 pub all_numbers :
     (names xs : List (List ℕ))
-    → All (Declared names) xs
-    → All (NumbersOneOf (length names)) (map (number_of names) xs)
+    → AllByRecursion (Declared names) xs
+    → AllByRecursion (NumbersOneOf (length names)) (map (number_of names) xs)
 all_numbers names xs h = All-map _ (number_of names) xs (All-weaker _ _ (numbers_one names) xs h)
 
 -- a name at a number is declared

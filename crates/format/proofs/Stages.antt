@@ -1,7 +1,7 @@
 -- How far a text has been read: the draft and the lines of each stage, and what holds there. Every line that is read leads
 -- from one stage to another. Assumes nothing.
 use Rattle.std.proofs.Common.{◌≡◌, ℕ, ◌-◌, ◌<◌, ◌≤◌, true, List, [], ◌∷◌, ◌++◌, map, length, get_or, sym, refl, ap, ◌∙◌, subst, inl, inr, arith}
-use Rattle.std.specs.List.{AllByRecursion as All}
+use Rattle.std.specs.List.{AllByRecursion}
 use Rattle.std.proofs.lemmas.List.{append-nil, append_assoc, nil_from_length, map-append, map_push, length_push, length-map}
 use Rattle.std.proofs.ByRecursion.{All-push}
 use Rattle.field.specs.Algebra.{Algebra}
@@ -95,15 +95,15 @@ pub record FineSteps (n : ℕ) (k : Kind) (ss : List (ℕ × ℕ)) : Type 0 wher
 
 pub record FineSymbols (sy : List Symbol) : Type 0 where
   pub few : length sy ≤ 12
-  pub names : All (λ s. is_name s.name ≡ true) sy
+  pub names : AllByRecursion (λ s. is_name s.name ≡ true) sy
   pub distinct : Distinct (symbol_names sy)
-  pub ranks : All (λ s. s.rank ≤ 3) sy
+  pub ranks : AllByRecursion (λ s. s.rank ≤ 3) sy
 
 pub record FineStates (q : ℕ) (ss : List State) : Type 0 where
   pub few : length ss ≤ 12
-  pub names : All (λ s. is_name s.name ≡ true) ss
+  pub names : AllByRecursion (λ s. is_name s.name ≡ true) ss
   pub distinct : Distinct (state_names ss)
-  pub finals : All (λ s. s.final < q) ss
+  pub finals : AllByRecursion (λ s. s.final < q) ss
 
 -- what holds at a stage
 abbrev pub Fine : Stage → Type 0
@@ -352,7 +352,7 @@ named_read :
     (x : Side) (syms names : List (List ℕ)) (s t : List ℕ) (w : ℕ) (cs : List (List ℕ))
     → Declared syms s
     → Declared names t
-    → All (Declared names) cs
+    → AllByRecursion (Declared names) cs
     → rule_named x syms names (rule_read syms names s t w cs) ≡ gives_rule x s t w cs
 named_read x syms names s t w cs hs ht hc =
     let es = name_of_number syms s hs in
@@ -389,7 +389,7 @@ module _ (sy : List Symbol) (ss : List State) (s t : List ℕ) (w : ℕ) (cs : L
       → Declared (symbol_names sy) s
       → length cs ≡ get_or (map (λ y. y.rank) sy) (number_of (symbol_names sy) s - 1) 0
       → Declared (state_names ss) t
-      → All (Declared (state_names ss)) cs
+      → AllByRecursion (Declared (state_names ss)) cs
       → w < q
       → ValidRule q sy (length ss) the_rule
   valid_read q hs er ht hc hw =
@@ -399,7 +399,7 @@ module _ (sy : List Symbol) (ss : List State) (s t : List ℕ) (w : ℕ) (cs : L
         symbol = subst (λ n. NumbersOneOf n the_rule.symbol) ls (numbers_one (symbol_names sy) s hs);
         rank = length-map cs (number_of (state_names ss)) ∙ er;
         target = subst (λ n. NumbersOneOf n the_rule.target) lt (numbers_one (state_names ss) t ht);
-        children = subst (λ n. All (NumbersOneOf n) the_rule.children) lt (all_numbers (state_names ss) cs hc);
+        children = subst (λ n. AllByRecursion (NumbersOneOf n) the_rule.children) lt (all_numbers (state_names ss) cs hc);
         weight = hw;
       }
 

@@ -1,6 +1,6 @@
 -- A text is read in one way: the bytes of a line say which line it is, and so do those of a text.
 use Rattle.std.proofs.Common.{◌≡◌, ℕ, ◌<◌, Bool, true, false, cond, eqb, leb, List, [], ◌∷◌, ◌++◌, length, get_or, codes, decimal, sym, refl, ap, ◌∙◌, subst, inl, inr, append_assoc, append-nil, arith}
-use Rattle.std.specs.List.{AllByRecursion as All}
+use Rattle.std.specs.List.{AllByRecursion}
 use Rattle.std.proofs.lemmas.Fmt.{digits_value-decimal}
 use Rattle.std.proofs.ByRecursion.{All-weaker}
 use Rattle.std.proofs.lemmas.Bool.{le-leb, lt-leb, leb-true, and_parts}
@@ -13,7 +13,7 @@ use Rattle.format.specs.Lines.{Block, Side, Line, fields, steps, symbols, states
 use Rattle.format.specs.Reading.{Draft, MayFollow, Complete, Check, checks, AllPass, FirstFailing, after, Reads, blank, declared, LineFault, Stops}
 use Rattle.format.specs.Theorems.{AcceptedAsOne, NeverBoth, OneFault}
 
-pub heading_names : (h : Block) → All (λ f. is_name f ≡ true) (heading h)
+pub heading_names : (h : Block) → AllByRecursion (λ f. is_name f ≡ true) (heading h)
 heading_names fields = (refl, (refl, (refl, tt)))
 heading_names steps = (refl, (refl, tt))
 heading_names symbols = (refl, (refl, tt))
@@ -36,7 +36,7 @@ module _ (b : ℕ) (out : inner b ≡ false) (low : b < 45) where
   letter_clear A = (omega arith, ((λ e. omega arith), tt))
   letter_clear B = (omega arith, ((λ e. omega arith), tt))
 
-  pub fields_clear : (l : Line) → Formed l → All (Clear b) (line_fields l)
+  pub fields_clear : (l : Line) → Formed l → AllByRecursion (Clear b) (line_fields l)
   fields_clear (opens h) f = All-weaker _ (Clear b) name_clear (heading h) (heading_names h)
   fields_clear (names_field (Residues p) n) (f, g) =
       (name_clear (codes "prime") refl, (number_clear p f, (number_clear n (omega arith), tt)))

@@ -1,6 +1,6 @@
 -- The lines of a valid record are read, one after another, as that record. Assumes nothing.
 use Rattle.std.proofs.Common.{◌≡◌, ℕ, ◌-◌, ◌^◌, ◌<◌, ◌≤◌, true, List, [], ◌∷◌, ◌++◌, map, length, get_or, sym, refl, ap, ◌∙◌, subst, inl, inr, arith}
-use Rattle.std.specs.List.{AllByRecursion as All}
+use Rattle.std.specs.List.{AllByRecursion}
 use Rattle.std.proofs.lemmas.List.{append-nil, append_assoc, map-append, length-append, length-map}
 use Rattle.std.proofs.ByRecursion.{All-get_or, All-map, All-weaker}
 use Rattle.shapes.specs.Shapes.{kind_algebra}
@@ -48,8 +48,8 @@ module _ {X : Type 0} (at : List X → Draft) (line : X → Line) where
 
 -- what holds of a list, at one of its elements
 module _ {X : Type 0} (all front : List X) (x : X) (back : List X) (e : all ≡ front ++ (x ∷ back)) where
-  at_middle : (P : X → Type 0) → All P all → P x
-  at_middle P h = all_middle P front x back (subst (All P) e h)
+  at_middle : (P : X → Type 0) → AllByRecursion P all → P x
+  at_middle P h = all_middle P front x back (subst (AllByRecursion P) e h)
 
   front_less : length front < length all
   front_less = omega (arith, ap length e, length-append front (x ∷ back))
@@ -60,17 +60,17 @@ module _ {X : Type 0} (all front : List X) (x : X) (back : List X) (e : all ≡ 
       (subst Distinct (ap (map name) e ∙ map-append name front (x ∷ back)) d)
 
 -- names of numbers are names, declared, and have these numbers
-module _ (names : List (List ℕ)) (formed : All (λ s. is_name s ≡ true) names) (distinct : Distinct names) where
+module _ (names : List (List ℕ)) (formed : AllByRecursion (λ s. is_name s ≡ true) names) (distinct : Distinct names) where
   abbrev name_at : ℕ → List ℕ
   name_at k = get_or names (k - 1) []
 
   name_formed : (k : ℕ) → NumbersOneOf (length names) k → is_name (name_at k) ≡ true
   name_formed k h = All-get_or (λ s. is_name s ≡ true) names (k - 1) [] (omega arith) formed
 
-  names_formed : (ks : List ℕ) → All (NumbersOneOf (length names)) ks → All (λ s. is_name s ≡ true) (map name_at ks)
+  names_formed : (ks : List ℕ) → AllByRecursion (NumbersOneOf (length names)) ks → AllByRecursion (λ s. is_name s ≡ true) (map name_at ks)
   names_formed ks h = All-map _ name_at ks (All-weaker _ _ name_formed ks h)
 
-  names_declared : (ks : List ℕ) → All (NumbersOneOf (length names)) ks → All (Declared names) (map name_at ks)
+  names_declared : (ks : List ℕ) → AllByRecursion (NumbersOneOf (length names)) ks → AllByRecursion (Declared names) (map name_at ks)
   names_declared ks h = All-map _ name_at ks (All-weaker _ _ (declared_name names distinct) ks h)
 
 module _ (r : Record) (v : ValidRecord r) where
@@ -83,7 +83,7 @@ module _ (r : Record) (v : ValidRecord r) where
   abbrev syms : List (List ℕ)
   syms = symbol_names r.symbols
 
-  syms_formed : All (λ s. is_name s ≡ true) syms
+  syms_formed : AllByRecursion (λ s. is_name s ≡ true) syms
   syms_formed = All-map _ (λ s. s.name) r.symbols v.names
 
   fits : (w : ℕ) → w < size → w < 2 ^ 32
@@ -168,7 +168,7 @@ module _ (r : Record) (v : ValidRecord r) where
     abbrev names : List (List ℕ)
     names = state_names p.states
 
-    states_formed : All (λ s. is_name s ≡ true) names
+    states_formed : AllByRecursion (λ s. is_name s ≡ true) names
     states_formed = All-map _ (λ s. s.name) p.states f.names
 
     module _ (u : Rule ℕ) (h : ValidRule size r.symbols (length p.states) u) where
@@ -178,7 +178,7 @@ module _ (r : Record) (v : ValidRecord r) where
       target_numbers : NumbersOneOf (length names) u.target
       target_numbers = rw length-map h.target
 
-      children_number : All (NumbersOneOf (length names)) u.children
+      children_number : AllByRecursion (NumbersOneOf (length names)) u.children
       children_number = rw length-map h.children
 
       symbol_back : number_of syms (get_or syms (u.symbol - 1) []) ≡ u.symbol
@@ -206,7 +206,7 @@ module _ (r : Record) (v : ValidRecord r) where
           × ((length (map (λ (k : ℕ). get_or names (k - 1) []) u.children)
           ≡ get_or (map (λ y. y.rank) r.symbols) (number_of syms (get_or syms (u.symbol - 1) []) - 1) 0)
           × (Declared names (get_or names (u.target - 1) [])
-          × (All (Declared names) (map (λ (k : ℕ). get_or names (k - 1) []) u.children)
+          × (AllByRecursion (Declared names) (map (λ (k : ℕ). get_or names (k - 1) []) u.children)
           × ((u.weight < size) × ((length front < 256) × Unit {0})))))
       rule_passes front less = (
         declared_name syms v.distinct u.symbol symbol_numbers,

@@ -1,6 +1,6 @@
 -- The lines of a text, and how each is written.
 use Rattle.std.specs.Prelude.{◌≡◌, ℕ, ◌^◌, ◌<◌, ◌≤◌, true, List, [], ◌∷◌, ◌++◌, codes, decimal}
-use Rattle.std.specs.List.{flat_map, AllByRecursion as All}
+use Rattle.std.specs.List.{flat_map, AllByRecursion}
 use Rattle.words.specs.Words.{is_name, spaced}
 use Rattle.shapes.specs.declared.shape.Kind.{Kind}
 use Rattle.shapes.specs.declared.shape.Kind.TheVariants.{Residues, Bytes}
@@ -69,4 +69,4 @@ Formed (names_field k n) = kind_fits k × (n ≤ 2)
 Formed (extends_by u v) = Fits u × Fits v
 Formed (declares_symbol s k) = (is_name s ≡ true) × Fits k
 Formed (declares_state d s w) = (is_name s ≡ true) × Fits w
-Formed (gives_rule d s t w cs) = (is_name s ≡ true) × (is_name t ≡ true) × Fits w × All (λ c. is_name c ≡ true) cs
+Formed (gives_rule d s t w cs) = (is_name s ≡ true) × (is_name t ≡ true) × Fits w × AllByRecursion (λ c. is_name c ≡ true) cs

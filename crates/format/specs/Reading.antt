@@ -1,6 +1,6 @@
 -- Which texts are accepted, and which fault any other text has.
 use Rattle.std.specs.Prelude.{◌≡◌, ℕ, zero, suc, ◌-◌, ◌<◌, ◌≤◌, Bool, true, false, cond, ◌&&◌, ◌⊎◌, List, [], ◌∷◌, ◌++◌, map, length, ◌==◌, ◌≢◌, slice_index}
-use Rattle.std.specs.List.{AllByRecursion as All}
+use Rattle.std.specs.List.{AllByRecursion}
 use Rattle.field.specs.Algebra.{Algebra}
 use Rattle.shapes.specs.Shapes.{kind_algebra, named}
 use Rattle.shapes.specs.declared.shape.Kind.{Kind}
@@ -110,7 +110,7 @@ checks d (gives_rule x s t w cs) =
     record { number = 107; passes = Declared (symbol_names d.symbols) s }
     ∷ record { number = 109; passes = length cs ≡ slice_index (map (λ y. y.rank) d.symbols) (number - 1) }
     ∷ record { number = 107; passes = Declared names t }
-    ∷ record { number = 107; passes = All (Declared names) cs }
+    ∷ record { number = 107; passes = AllByRecursion (Declared names) cs }
     ∷ record { number = 105; passes = w < (draft_field d).size }
     ∷ record { number = 205; passes = length (draft_part d x).rules < 256 }
     ∷ []

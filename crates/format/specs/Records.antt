@@ -1,6 +1,6 @@
 -- What a text declares: the field, the symbols, and the states and rules of the two sides, each in order.
 use Rattle.std.specs.Prelude.{◌≡◌, ℕ, ◌-◌, ◌<◌, ◌≤◌, true, List, [], ◌∷◌, ◌++◌, map, length, get_or, ◌≢◌, slice_index, slice_index_or}
-use Rattle.std.specs.List.{AllByRecursion as All}
+use Rattle.std.specs.List.{AllByRecursion}
 use Rattle.field.specs.Algebra.{Algebra}
 use Rattle.shapes.specs.Shapes.{kind_algebra, named}
 use Rattle.shapes.specs.declared.shape.Kind.{Kind}
@@ -49,7 +49,7 @@ part r B = r.b
 -- no two of the list are equal
 abbrev pub Distinct : List (List ℕ) → Type 0
 Distinct [] = Unit {0}
-Distinct (x ∷ xs) = All (λ y. y ≢ x) xs × Distinct xs
+Distinct (x ∷ xs) = AllByRecursion (λ y. y ≢ x) xs × Distinct xs
 
 abbrev pub symbol_names : List Symbol → List (List ℕ)
 symbol_names ss = map (λ s. s.name) ss
@@ -65,18 +65,18 @@ pub record ValidRule (q : ℕ) (ss : List Symbol) (n : ℕ) (r : Rule ℕ) : Typ
   pub symbol : NumbersOneOf (length ss) r.symbol
   pub rank : length r.children ≡ slice_index (map (λ s. s.rank) ss) (r.symbol - 1)
   pub target : NumbersOneOf n r.target
-  pub children : All (NumbersOneOf n) r.children
+  pub children : AllByRecursion (NumbersOneOf n) r.children
   pub weight : r.weight < q
 
 -- 1 to 12 states with names of their own, at most 256 rules, all weights elements of the field
 pub record ValidPart (q : ℕ) (ss : List Symbol) (p : Part) : Type 0 where
   pub some : 1 ≤ length p.states
   pub few : length p.states ≤ 12
-  pub names : All (λ s. is_name s.name ≡ true) p.states
+  pub names : AllByRecursion (λ s. is_name s.name ≡ true) p.states
   pub distinct : Distinct (state_names p.states)
-  pub finals : All (λ s. s.final < q) p.states
+  pub finals : AllByRecursion (λ s. s.final < q) p.states
   pub few_rules : length p.rules ≤ 256
-  pub rules : All (ValidRule q ss (length p.states)) p.rules
+  pub rules : AllByRecursion (ValidRule q ss (length p.states)) p.rules
 
 -- A record: a field that keeps the laws, 1 to 12 symbols of rank 0 to 3 with names of their own, and two sides.
 pub record ValidRecord (r : Record) : Type 0 where
@@ -85,9 +85,9 @@ pub record ValidRecord (r : Record) : Type 0 where
   pub steps : AllExtend (kind_algebra r.kind) r.steps
   pub some : 1 ≤ length r.symbols
   pub few : length r.symbols ≤ 12
-  pub names : All (λ s. is_name s.name ≡ true) r.symbols
+  pub names : AllByRecursion (λ s. is_name s.name ≡ true) r.symbols
   pub distinct : Distinct (symbol_names r.symbols)
-  pub ranks : All (λ s. s.rank ≤ 3) r.symbols
+  pub ranks : AllByRecursion (λ s. s.rank ≤ 3) r.symbols
   pub a : ValidPart (field_of r).size r.symbols r.a
   pub b : ValidPart (field_of r).size r.symbols r.b
 

@@ -1,6 +1,6 @@
 -- Which texts no line is written as.
 use Rattle.std.proofs.Common.{◌≡◌, ℕ, ◌<◌, ◌≤◌, true, false, List, [], ◌∷◌, length, codes, decimal, sym, refl, ap, ◌∙◌, subst, arith}
-use Rattle.std.specs.List.{AllByRecursion as All}
+use Rattle.std.specs.List.{AllByRecursion}
 use Rattle.std.proofs.lemmas.Bool.{both_ways}
 use Rattle.words.specs.Words.{is_name, spaced, Lacks, Number}
 use Rattle.shapes.specs.declared.shape.Kind.{Kind}
@@ -18,7 +18,7 @@ fields_are text ps e m h w = sym (line_pieces m h) ∙ ap pieces w ∙ e
 pub one_absent : (text : List ℕ) → Lacks 32 text → Absent text
 one_absent text lacks m h w = omega (arith, line_long m, ap length (fields_are text _ (pieces_one text lacks) m h w))
 
-module _ (f g : List ℕ) (lacks : All (Lacks 32) (f ∷ g ∷ [])) (none : OpensNone (spaced (f ∷ g ∷ []))) where
+module _ (f g : List ℕ) (lacks : AllByRecursion (Lacks 32) (f ∷ g ∷ [])) (none : OpensNone (spaced (f ∷ g ∷ []))) where
   pair_fields : (m : Line) → Formed m → written m ≡ spaced (f ∷ g ∷ []) → line_fields m ≡ f ∷ g ∷ []
   pair_fields = fields_are _ _ (pieces_spaced (f ∷ g ∷ []) (omega arith) lacks)
 
@@ -36,7 +36,7 @@ module _ (f g : List ℕ) (lacks : All (Lacks 32) (f ∷ g ∷ [])) (none : Open
   pair_absent step symbol (declares_state d s k) h w = omega (arith, ap length (pair_fields (declares_state d s k) h w))
   pair_absent step symbol (gives_rule d s t k cs) h w = omega (arith, ap length (pair_fields (gives_rule d s t k cs) h w))
 
-module _ (f g t : List ℕ) (lacks : All (Lacks 32) (f ∷ g ∷ [])) (free : NoLetter f) (none : OpensNone (spaced (f ∷ g ∷ t ∷ []))) where
+module _ (f g t : List ℕ) (lacks : AllByRecursion (Lacks 32) (f ∷ g ∷ [])) (free : NoLetter f) (none : OpensNone (spaced (f ∷ g ∷ t ∷ []))) where
   three_fields : (m : Line) → Formed m → written m ≡ spaced (f ∷ g ∷ t ∷ []) → line_fields m ≡ f ∷ g ∷ pieces t
   three_fields = fields_are _ _ (pieces_front (f ∷ g ∷ []) t lacks)
 
@@ -61,10 +61,10 @@ module _ (text s : List ℕ) (d : Side) (ps : List (List ℕ)) (e : pieces text 
   other : (f : List ℕ) → is_name f ≡ true → f ≡ letter d → ⊥
   other f h i = both_ways (is_name (letter d)) (letter_no_name d) (subst (λ x. is_name x ≡ true) i h)
 
-  sided_absent : (is_name s ≡ true → (w : ℕ) → Fits w → ps ≡ decimal w ∷ [] → ⊥) → (is_name s ≡ true → (t : List ℕ) (w : ℕ) (cs : List (List ℕ)) → is_name t ≡ true → Fits w → All (λ c. is_name c ≡ true) cs → ps ≡ t ∷ decimal w ∷ cs → ⊥) → Absent text
+  sided_absent : (is_name s ≡ true → (w : ℕ) → Fits w → ps ≡ decimal w ∷ [] → ⊥) → (is_name s ≡ true → (t : List ℕ) (w : ℕ) (cs : List (List ℕ)) → is_name t ≡ true → Fits w → AllByRecursion (λ c. is_name c ≡ true) cs → ps ≡ t ∷ decimal w ∷ cs → ⊥) → Absent text
   sided_absent state rule (opens b) h w =
       let i = fields_are text _ e (opens b) h w in
-      other (letter d) (subst (All (λ c. is_name c ≡ true)) i (heading_names b)).0 refl
+      other (letter d) (subst (AllByRecursion (λ c. is_name c ≡ true)) i (heading_names b)).0 refl
   sided_absent state rule (names_field (Residues p) n) h w =
       let i = fields_are text _ e (names_field (Residues p) n) h w in
       other (codes "prime") refl (cc)
@@ -84,7 +84,7 @@ module _ (text s : List ℕ) (d : Side) (ps : List (List ℕ)) (e : pieces text 
       let named = h.0 in
       rule (cc) t k cs h.1 h.2 h.3 (cc)
 
-module _ (d : Side) (s t : List ℕ) (lacks : All (Lacks 32) (s ∷ t ∷ [])) where
+module _ (d : Side) (s t : List ℕ) (lacks : AllByRecursion (Lacks 32) (s ∷ t ∷ [])) where
   pub state_absent : (is_name s ≡ true → (w : ℕ) → Number t w → ⊥) → Absent (spaced (letter d ∷ s ∷ t ∷ []))
   state_absent state =
       sided_absent _ s d (t ∷ []) (pieces_spaced (letter d ∷ s ∷ t ∷ []) (omega arith) ((letter_field d).1, lacks)) (omega arith)

@@ -1,7 +1,7 @@
 -- The children of a rule: names parted by spaces.
 use Rattle.std.proofs.Common.{◌≡◌, ℕ, ◌<◌, Bool, true, ◌&&◌, List, [], ◌∷◌, length, decimal, Decides, sym, refl, ap, ◌∙◌, subst, arith, length-append}
 use mathlib.Core.Bool.{and-true}
-use Rattle.std.specs.List.{list_all, AllByRecursion as All}
+use Rattle.std.specs.List.{list_all, AllByRecursion}
 use Rattle.std.proofs.ByRecursion.{Decides-by_and}
 use Rattle.words.specs.Words.{is_name, spaced, Lacks, Cut, Number}
 use Rattle.words.proofs.Numbers.{decimal_field}
@@ -19,7 +19,7 @@ names_cut xs front rest (e, h) b t = rw (e, pieces_cut front rest h, t)
 pub names_last : (xs : List ℕ) → Lacks 32 xs → names xs ≡ is_name xs
 names_last xs h = rw (pieces_one xs h, and-true)
 
-all_names : (cs : List (List ℕ)) → Decides (list_all is_name cs) (All (λ c. is_name c ≡ true) cs)
+all_names : (cs : List (List ℕ)) → Decides (list_all is_name cs) (AllByRecursion (λ c. is_name c ≡ true) cs)
 all_names = Decides-by_and is_name (λ c. is_name c ≡ true) (list_all is_name) (λ c. (λ h. h, λ h. h)) refl (λ _ _. refl)
 
 names_decide : (xs : List ℕ) → Decides (names xs) (Names xs)

@@ -1,6 +1,6 @@
 -- The pieces of a text between its spaces, and the fields of a line as the pieces of its text.
 use Rattle.std.proofs.Common.{◌≡◌, ℕ, ◌<◌, true, eqb, List, [], ◌∷◌, ◌++◌, length, sym, refl, ap, ◌∙◌, inl, inr, append_assoc, arith}
-use Rattle.std.specs.List.{AllByRecursion as All}
+use Rattle.std.specs.List.{AllByRecursion}
 use Rattle.std.proofs.ByRecursion.{All-weaker}
 use Rattle.std.proofs.lemmas.Bool.{cases_Bool, eqb-true, ne_eqb}
 use Rattle.words.specs.Words.{is_name, spaced, Lacks}
@@ -22,7 +22,7 @@ pub parted_field : (f : List ℕ) → Field f → parted f ≡ f ∷ []
 parted_field [] h = absurd (omega (arith, h.0))
 parted_field (x ∷ f) h = parted_one x f h.1
 
-pub parted_spaced : (fs : List (List ℕ)) → All Field fs → parted (spaced fs) ≡ fs
+pub parted_spaced : (fs : List (List ℕ)) → AllByRecursion Field fs → parted (spaced fs) ≡ fs
 parted_spaced [] h = refl
 parted_spaced (f ∷ []) h = parted_field f h.0
 parted_spaced (f ∷ g ∷ fs) h = parted_cut f _ h.0.1 ∙ ap (λ ps. f ∷ ps) (parted_spaced (g ∷ fs) h.1)
@@ -68,25 +68,25 @@ spaced_pieces (x ∷ xs) =
 pub piece_alone : (xs f : List ℕ) → pieces xs ≡ f ∷ [] → xs ≡ f
 piece_alone xs f e = sym (spaced_pieces xs) ∙ ap spaced e
 
-pub pieces_spaced : (fs : List (List ℕ)) → 0 < length fs → All (Lacks 32) fs → pieces (spaced fs) ≡ fs
+pub pieces_spaced : (fs : List (List ℕ)) → 0 < length fs → AllByRecursion (Lacks 32) fs → pieces (spaced fs) ≡ fs
 pieces_spaced [] some h = absurd (omega arith)
 pieces_spaced (f ∷ []) some h = pieces_one f h.0
 pieces_spaced (f ∷ g ∷ fs) some h =
     pieces_cut f _ h.0 ∙ ap (λ ps. f ∷ ps) (pieces_spaced (g ∷ fs) (omega arith) h.1)
 
 -- pieces that lack the space, and those of the rest
-pub pieces_front : (fs : List (List ℕ)) (rest : List ℕ) → All (Lacks 32) fs → pieces (spaced (fs ++ (rest ∷ []))) ≡ fs ++ pieces rest
+pub pieces_front : (fs : List (List ℕ)) (rest : List ℕ) → AllByRecursion (Lacks 32) fs → pieces (spaced (fs ++ (rest ∷ []))) ≡ fs ++ pieces rest
 pieces_front [] rest h = refl
 pieces_front (f ∷ []) rest h = pieces_cut f rest h.0
 pieces_front (f ∷ g ∷ fs) rest h = pieces_cut f _ h.0 ∙ ap (λ ps. f ∷ ps) (pieces_front (g ∷ fs) rest h.1)
 
-pub fields_lack : (fs : List (List ℕ)) → All Field fs → All (Lacks 32) fs
+pub fields_lack : (fs : List (List ℕ)) → AllByRecursion Field fs → AllByRecursion (Lacks 32) fs
 fields_lack fs h = All-weaker Field (Lacks 32) (λ _ f. f.1) fs h
 
 name_field : (s : List ℕ) → is_name s ≡ true → Field s
 name_field = name_clear 32 refl (omega arith)
 
-pub names_fields : (cs : List (List ℕ)) → All (λ c. is_name c ≡ true) cs → All Field cs
+pub names_fields : (cs : List (List ℕ)) → AllByRecursion (λ c. is_name c ≡ true) cs → AllByRecursion Field cs
 names_fields cs h = All-weaker (λ c. is_name c ≡ true) Field name_field cs h
 
 pub letter_field : (d : Side) → Field (letter d)

@@ -4,7 +4,7 @@ ghost use Rattle.std.specs.Prelude.{◌≡◌, ℕ, List, [], ◌∷◌, Decides
 ghost use Rattle.format.specs.Lines.{kind_fields, kind_fits, letter, opens, written};
 ghost use Rattle.lines.specs.Fields.{Ends, Names, NamesNone, NoLetter, OpensNone};
 ghost use Rattle.lines.specs.Recognized.{block_of, parted, side_of, Recognized};
-ghost use Rattle.std.specs.List.{AllByRecursion as All};
+ghost use Rattle.std.specs.List.{AllByRecursion};
 ghost use Rattle.words.specs.Words.{is_name, spaced, Lacks};
 
 use crate::line::{Block, Line, Side};
@@ -84,7 +84,7 @@ fn are_names(part: &[u8]) -> bool
 
 // A line of two fields: a pair step, or a symbol and its rank.
 pub(crate) fn pair<'a>(first: &'a [u8], second: &'a [u8]) -> Option<Line<'a>>
-    requires { (All (Lacks 32) (first.now ∷ second.now ∷ [])) × (OpensNone (spaced (first.now ∷ second.now ∷ []))) }
+    requires { (AllByRecursion (Lacks 32) (first.now ∷ second.now ∷ [])) × (OpensNone (spaced (first.now ∷ second.now ∷ []))) }
     ensures { Recognized (spaced (first.now ∷ second.now ∷ [])) result }
 {
     let last = number(second)?;
@@ -102,7 +102,7 @@ pub(crate) fn pair<'a>(first: &'a [u8], second: &'a [u8]) -> Option<Line<'a>>
 
 // The kind of field and the number of its pair steps.
 pub(crate) fn field<'a>(first: &'a [u8], second: &'a [u8], third: &'a [u8]) -> Option<Line<'a>>
-    requires { (All (Lacks 32) (first.now ∷ second.now ∷ [])) × ((NoLetter first.now) × (OpensNone (spaced (first.now ∷ second.now ∷ third.now ∷ [])))) }
+    requires { (AllByRecursion (Lacks 32) (first.now ∷ second.now ∷ [])) × ((NoLetter first.now) × (OpensNone (spaced (first.now ∷ second.now ∷ third.now ∷ [])))) }
     ensures { Recognized (spaced (first.now ∷ second.now ∷ third.now ∷ [])) result }
 {
     let kind = kind(first, second)?;
@@ -115,7 +115,7 @@ pub(crate) fn field<'a>(first: &'a [u8], second: &'a [u8], third: &'a [u8]) -> O
 
 // A side, a state and its final weight.
 pub(crate) fn state<'a>(side: Side, name: &'a [u8], third: &'a [u8]) -> Option<Line<'a>>
-    requires { All (Lacks 32) (name.now ∷ third.now ∷ []) }
+    requires { AllByRecursion (Lacks 32) (name.now ∷ third.now ∷ []) }
     ensures { Recognized (spaced (letter (side_of side) ∷ name.now ∷ third.now ∷ [])) result }
 {
     if !is_name(name) {
@@ -147,7 +147,7 @@ pub(crate) fn rule<'a>(
     target: &'a [u8],
     rest: &'a [u8],
 ) -> Option<Line<'a>>
-    requires { All (Lacks 32) (symbol.now ∷ target.now ∷ []) }
+    requires { AllByRecursion (Lacks 32) (symbol.now ∷ target.now ∷ []) }
     ensures { Recognized (spaced (letter (side_of side) ∷ symbol.now ∷ target.now ∷ rest.now ∷ [])) result }
 {
     if !is_name(symbol) || !is_name(target) {

@@ -1,6 +1,6 @@
 -- A loop over a list, at its element x of index i.
 use Rattle.std.proofs.Common.{◌≡◌, ℕ, ◌+◌, ◌-◌, ◌<◌, ◌≤◌, min, List, [], ◌∷◌, ◌++◌, map, length, get_or, take, drop, set, sym, ap, ◌∙◌, subst, append_assoc, arith}
-use Rattle.std.specs.List.{AllByRecursion as All}
+use Rattle.std.specs.List.{AllByRecursion}
 use Rattle.std.proofs.ByRecursion.{All-get_or}
 use Rattle.std.proofs.lemmas.List.{drop_more, get_or-map, length-append, length-drop, length-map, length-take-le, map_more, set_at}
 
@@ -15,7 +15,7 @@ module _ {X Y : Type 0} (f : X → Y) (xs : List X) (i : ℕ) (x : X) (less : i 
     pub pushed : map f (take (i + 1) xs) ≡ map f (take i xs) ++ (f x ∷ [])
     pushed = map_more f xs i x less ∙ ap (λ y. map f (take i xs) ++ (f y ∷ [])) (sym is)
 
-    pub holds_of : (P : Y → Type 0) → All P (map f xs) → P (f x)
+    pub holds_of : (P : Y → Type 0) → AllByRecursion P (map f xs) → P (f x)
     holds_of P all =
         subst P (get_or-map f xs i x (f x) less ∙ ap f (sym is))
         (All-get_or P (map f xs) i (f x) (omega (arith, length-map xs f)) all)

@@ -1,6 +1,6 @@
 -- One call more of those that give a record's lists: what the session is after it, and that it is not refused.
 use Rattle.std.proofs.Common.{◌≡◌, ℕ, zero, suc, ◌+◌, ◌-◌, ◌<◌, ◌≤◌, List, [], ◌∷◌, ◌++◌, length, set, sym, refl, ap, ◌∙◌, subst, append_assoc, append-nil, arith}
-use Rattle.std.specs.List.{AllByRecursion as All}
+use Rattle.std.specs.List.{AllByRecursion}
 use Rattle.field.specs.Algebra.{Algebra}
 use Rattle.equivalence.specs.Automata.{Automaton, Rule, states}
 use Rattle.refusals.specs.declared.Refusal.{Refusal}
@@ -127,7 +127,7 @@ module _ (A : Algebra) (s₀ s : Session) (e : Refusal) (open' : s₀.phase ≡ 
 pub record ReadyForRules (q : ℕ) (s : Session) (x n : ℕ) (rs : List (Rule ℕ)) : Type 0 where
   pub phase : s.phase ≡ Open
   pub fits : length (side s.sides x).rules + n ≤ 256
-  pub rules : All (ValidRule q s.sides.ranks (states (side s.sides x))) rs
+  pub rules : AllByRecursion (ValidRule q s.sides.ranks (states (side s.sides x))) rs
 
 module _ (s t : Session) (ws : List ℕ) (rs : List (Rule ℕ)) where
   pub ready_for_rules :
@@ -137,16 +137,16 @@ module _ (s t : Session) (ws : List ℕ) (rs : List (Rule ℕ)) where
       → (side s.sides x).rules ≡ []
       → n ≤ 256
       → states (side s.sides x) ≡ length ws
-      → All (ValidRule q s.sides.ranks (states (side s.sides x))) rs
+      → AllByRecursion (ValidRule q s.sides.ranks (states (side s.sides x))) rs
       → ReadyForRules q t x n rs
   ready_for_rules q zero n e p h few count all =
       let none : length s.sides.a.rules ≡ 0 = ap length h in
       subst (λ (z : Session). ReadyForRules q z zero n rs) (sym e)
-      (record { phase = p; fits = omega arith; rules = subst (λ m. All (ValidRule q s.sides.ranks m) rs) count all })
+      (record { phase = p; fits = omega arith; rules = subst (λ m. AllByRecursion (ValidRule q s.sides.ranks m) rs) count all })
   ready_for_rules q (suc x) n e p h few count all =
       let none : length s.sides.b.rules ≡ 0 = ap length h in
       subst (λ (z : Session). ReadyForRules q z (suc x) n rs) (sym e)
-      (record { phase = p; fits = omega arith; rules = subst (λ m. All (ValidRule q s.sides.ranks m) rs) count all })
+      (record { phase = p; fits = omega arith; rules = subst (λ m. AllByRecursion (ValidRule q s.sides.ranks m) rs) count all })
 
   pub side_given :
       (u : Session) (x : ℕ)

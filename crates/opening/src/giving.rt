@@ -7,7 +7,7 @@ ghost use Rattle.rules.specs.Rules.{rule_model};
 ghost use Rattle.session.specs.Sessions.{side as side_at, with_side, with_sides};
 ghost use Rattle.session.specs.Validity.{ValidRule, ValidSide};
 ghost use Rattle.session.specs.declared.Phase.TheVariants.{Open};
-ghost use Rattle.std.specs.List.{AllByRecursion as All};
+ghost use Rattle.std.specs.List.{AllByRecursion};
 
 use comparison::comparison::Comparison;
 use field::Field;
@@ -31,7 +31,7 @@ pub(crate) fn give_symbols<F: Field>(c: &mut Comparison<F>, symbols: &[Symbol])
 
 // Gives all states of a side their final weights.
 pub(crate) fn give_finals<F: Field>(c: &mut Comparison<F>, side: u32, states: &[State])
-    requires { ((session c.old).phase ≡ Open) × ((side ≤ 1) × ((length states.now ≤ 12) × ((many (side_at (session c.old).sides side) ≡ length states.now) × (All (λ w. w < (F.Field.model (field_of c.old)).size) (map final_of states.now))))) }
+    requires { ((session c.old).phase ≡ Open) × ((side ≤ 1) × ((length states.now ≤ 12) × ((many (side_at (session c.old).sides side) ≡ length states.now) × (AllByRecursion (λ w. w < (F.Field.model (field_of c.old)).size) (map final_of states.now))))) }
     ensures holds { session c.new ≡ with_sides (session c.old) (with_finals (session c.old).sides side (map final_of states.now)) }
     ensures field { field_of c.new ≡ field_of c.old }
 {
@@ -46,7 +46,7 @@ pub(crate) fn give_finals<F: Field>(c: &mut Comparison<F>, side: u32, states: &[
 
 // Gives a side the rules, after those that it has.
 pub(crate) fn give_rules<F: Field>(c: &mut Comparison<F>, side: u32, rules: &[Rule])
-    requires { ((session c.old).phase ≡ Open) × ((side ≤ 1) × ((length (side_at (session c.old).sides side).rules + length rules.now ≤ 256) × (All (ValidRule (F.Field.model (field_of c.old)).size (session c.old).sides.ranks (many (side_at (session c.old).sides side))) (map rule_model rules.now)))) }
+    requires { ((session c.old).phase ≡ Open) × ((side ≤ 1) × ((length (side_at (session c.old).sides side).rules + length rules.now ≤ 256) × (AllByRecursion (ValidRule (F.Field.model (field_of c.old)).size (session c.old).sides.ranks (many (side_at (session c.old).sides side))) (map rule_model rules.now)))) }
     ensures holds { session c.new ≡ with_sides (session c.old) (with_rules (session c.old).sides side (map rule_model rules.now)) }
     ensures field { field_of c.new ≡ field_of c.old }
 {

@@ -1,6 +1,6 @@
 -- Every refusal has its cause. Assumes nothing.
 use Rattle.std.proofs.Common.{ℕ, ◌<◌, ◌≤◌, ◌⊎◌, List, [], ◌∷◌, map, Err, sym, subst, inl, inr, ⊎_elim, arith}
-use Rattle.std.specs.List.{AllByRecursion as All}
+use Rattle.std.specs.List.{AllByRecursion}
 use Rattle.std.proofs.lemmas.Bool.{cases_lt}
 use Rattle.field.specs.Algebra.{Algebra}
 use Rattle.equivalence.specs.Automata.{Automaton, states}
@@ -30,7 +30,7 @@ state_or_not M q =
     (λ l. ⊎_elim (λ z. inr (λ h. absurd (omega arith))) (λ k. inl (l, k)) (cases_lt (states M) q))
     (cases_lt q 1)
 
-some_child : (M : Automaton ℕ) (cs : List ℕ) → (All (StateOf M) cs → ⊥) → Among (λ (p : Automaton ℕ × ℕ). StateOf p.0 p.1 → ⊥) (map (λ q. (M, q)) cs)
+some_child : (M : Automaton ℕ) (cs : List ℕ) → (AllByRecursion (StateOf M) cs → ⊥) → Among (λ (p : Automaton ℕ × ℕ). StateOf p.0 p.1 → ⊥) (map (λ q. (M, q)) cs)
 some_child M [] h = h tt
 some_child M (q ∷ cs) h = ⊎_elim (λ is. inr (some_child M cs (λ all. h (is, all)))) (λ not. inl not) (state_or_not M q)
 

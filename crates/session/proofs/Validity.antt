@@ -1,6 +1,6 @@
 -- Every call leaves a valid session valid. Assumes nothing.
 use Rattle.std.proofs.Common.{◌≡◌, ℕ, zero, suc, ◌-◌, ◌<◌, ◌≤◌, List, [], ◌∷◌, ◌++◌, length, set, replicate, Ok, Err, sym, ◌∙◌, subst, arith}
-use Rattle.std.specs.List.{AllByRecursion as All}
+use Rattle.std.specs.List.{AllByRecursion}
 use Rattle.std.proofs.ByRecursion.{All-push, All-set, All-weaker}
 use Rattle.std.proofs.lemmas.List.{length_push, length-set, length-replicate, get_or_append_left}
 use Rattle.field.specs.Algebra.{Algebra, Lawful}
@@ -12,7 +12,7 @@ use Rattle.session.specs.Sessions.{Session, begun, blank, with_sides, with_symbo
 use Rattle.session.specs.Runs.{Event, Run}
 use Rattle.session.specs.Validity.{ValidRule, ValidSide, ValidSession, Valid}
 
-all_replicate : (q n w : ℕ) → w < q → All (λ x. x < q) (replicate n w)
+all_replicate : (q n w : ℕ) → w < q → AllByRecursion (λ x. x < q) (replicate n w)
 all_replicate q zero w h = tt
 all_replicate q (suc n) w h = (h, all_replicate q n w h)
 
@@ -78,7 +78,7 @@ rule_passed :
     → Declared ranks f
     → length ps ≡ rank ranks f
     → StateOf M t
-    → All (StateOf M) ps
+    → AllByRecursion (StateOf M) ps
     → w < q
     → ValidRule q ranks n (record { symbol = f; target = t; weight = w; children = ps })
 rule_passed q ranks n M f t w ps count d many target children below =
@@ -86,7 +86,7 @@ rule_passed q ranks n M f t w ps count d many target children below =
       symbol = d;
       as_many = many;
       target = subst (λ (k : ℕ). (1 ≤ t) × (t ≤ k)) count target;
-      children = subst (λ (k : ℕ). All (λ p. (1 ≤ p) × (p ≤ k)) ps) count children;
+      children = subst (λ (k : ℕ). AllByRecursion (λ p. (1 ≤ p) × (p ≤ k)) ps) count children;
       weight = below;
     }
 
@@ -159,7 +159,7 @@ side_sound q ranks n M v =
       finals = v.finals;
       rules =
           All-weaker (ValidRule q ranks n) (automata.SoundRule q (states M))
-          (λ r h. record { weight = h.weight; children = subst (λ (k : ℕ). All (λ p. (1 ≤ p) × (p ≤ k)) r.children) (sym v.count) h.children })
+          (λ r h. record { weight = h.weight; children = subst (λ (k : ℕ). AllByRecursion (λ p. (1 ≤ p) × (p ≤ k)) r.children) (sym v.count) h.children })
           M.rules
           v.rules;
     }

@@ -1,6 +1,6 @@
 -- The calls, the checks of each in their order, and what a call does to a session.
 use Rattle.std.specs.Prelude.{◌≡◌, ℕ, suc, ◌<◌, ◌≤◌, ◌⊎◌, List, [], ◌∷◌, length, Ok, Err, Result}
-use Rattle.std.specs.List.{AllByRecursion as All}
+use Rattle.std.specs.List.{AllByRecursion}
 use Rattle.field.specs.Algebra.{Algebra, ops}
 use Rattle.equivalence.specs.Trees.{rank, Declared}
 use Rattle.equivalence.specs.Automata.{Automaton, states, value}
@@ -54,7 +54,7 @@ rule_checks A ranks M f t w cs =
     record { refusal = Undeclared; passes = Declared ranks f }
     ∷ record { refusal = WrongChildren; passes = length cs ≡ rank ranks f }
     ∷ record { refusal = Undeclared; passes = StateOf M t }
-    ∷ record { refusal = Undeclared; passes = All (StateOf M) cs }
+    ∷ record { refusal = Undeclared; passes = AllByRecursion (StateOf M) cs }
     ∷ record { refusal = WeightTooLarge; passes = w < A.size }
     ∷ record { refusal = TableFull; passes = length M.rules < 256 }
     ∷ []

@@ -1,6 +1,6 @@
 -- Sessions that keep to the limits, and of whose automata all symbols and states are declared and all weights are elements.
 use Rattle.std.specs.Prelude.{◌≡◌, ℕ, ◌<◌, ◌≤◌, List, length}
-use Rattle.std.specs.List.{AllByRecursion as All}
+use Rattle.std.specs.List.{AllByRecursion}
 use Rattle.field.specs.Algebra.{Algebra}
 use Rattle.equivalence.specs.Trees.{rank, Declared}
 use Rattle.equivalence.specs.Automata.{Rule, Automaton, states}
@@ -11,18 +11,18 @@ pub record ValidRule (q : ℕ) (ranks : List ℕ) (n : ℕ) (r : Rule ℕ) : Typ
   pub symbol : Declared ranks r.symbol
   pub as_many : length r.children ≡ rank ranks r.symbol
   pub target : (1 ≤ r.target) × (r.target ≤ n)
-  pub children : All (λ p. (1 ≤ p) × (p ≤ n)) r.children
+  pub children : AllByRecursion (λ p. (1 ≤ p) × (p ≤ n)) r.children
   pub weight : r.weight < q
 
 pub record ValidSide (q : ℕ) (ranks : List ℕ) (n : ℕ) (M : Automaton ℕ) : Type 0 where
   pub count : states M ≡ n
-  pub finals : All (λ w. w < q) M.finals
-  pub rules : All (ValidRule q ranks n) M.rules
+  pub finals : AllByRecursion (λ w. w < q) M.finals
+  pub rules : AllByRecursion (ValidRule q ranks n) M.rules
   pub few : length M.rules ≤ 256
 
 pub record ValidSession (A : Algebra) (n m : ℕ) (s : Session) : Type 0 where
   pub few : length s.sides.ranks ≤ 12
-  pub ranks : All (λ k. k ≤ 3) s.sides.ranks
+  pub ranks : AllByRecursion (λ k. k ≤ 3) s.sides.ranks
   pub a : ValidSide A.size s.sides.ranks n s.sides.a
   pub b : ValidSide A.size s.sides.ranks m s.sides.b
 

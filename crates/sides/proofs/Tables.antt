@@ -1,6 +1,6 @@
 -- Tables that take one entry more, and ranks. Assumes nothing.
 use Rattle.std.proofs.Common.{◌≡◌, ℕ, ◌-◌, ◌<◌, ◌≤◌, Bool, cond, List, [], ◌∷◌, ◌++◌, length, ap, ◌∙◌, arith}
-use Rattle.std.specs.List.{AllByRecursion as All}
+use Rattle.std.specs.List.{AllByRecursion}
 use Rattle.std.proofs.ByRecursion.{All-get_or}
 use Rattle.equivalence.specs.Automata.{Automaton, Rule}
 use Rattle.equivalence.specs.Trees.{Declared, rank}
@@ -18,5 +18,5 @@ pub ruled_from :
     (M N : Automaton ℕ) (r : Rule ℕ) → N.finals ≡ M.finals → N.rules ≡ M.rules ++ (r ∷ []) → N ≡ ruled M r
 ruled_from M N r e f i = record { finals = e i; rules = f i }
 
-pub few_children : (ranks : List ℕ) (f : ℕ) → All (λ k. k ≤ 3) ranks → Declared ranks f → rank ranks f ≤ 3
+pub few_children : (ranks : List ℕ) (f : ℕ) → AllByRecursion (λ k. k ≤ 3) ranks → Declared ranks f → rank ranks f ≤ 3
 few_children ranks f all d = All-get_or (λ k. k ≤ 3) ranks (f - 1) 0 (omega arith) all

@@ -5,7 +5,7 @@ ghost use Rattle.sides.specs.Sides.{Takes};
 ghost use Rattle.rules.specs.Rules.{rule_model};
 ghost use Rattle.session.specs.Calls.{StateOf, final_checks, rule_checks};
 ghost use Rattle.session.specs.Sessions.{ruled, weighted};
-ghost use Rattle.std.specs.List.{AllByRecursion as All};
+ghost use Rattle.std.specs.List.{AllByRecursion};
 
 use automaton::tables::{Automaton, Ranks};
 use field::Field;
@@ -24,7 +24,7 @@ fn is_state(m: &Automaton, state: u32) -> bool
 
 // Whether all the numbers are.
 fn are_states(m: &Automaton, states: &[u32]) -> bool
-    ensures { Decides result (All (StateOf (automaton_of m.now)) states.now) }
+    ensures { Decides result (AllByRecursion (StateOf (automaton_of m.now)) states.now) }
 {
     for i in 0..states.len() {
         if !is_state(m, states[i]) {
@@ -88,7 +88,7 @@ pub fn give_rule<F: Field>(
     weight: u32,
     children: &[u32],
 ) -> Result<(), Refusal>
-    requires { (F.Field.valid f.now) × (All (λ k. k ≤ 3) (ranks_of ranks.now)) }
+    requires { (F.Field.valid f.now) × (AllByRecursion (λ k. k ≤ 3) (ranks_of ranks.now)) }
     ensures does { Takes (rule_checks (F.Field.model f.now) (ranks_of ranks.now) (automaton_of m.old) symbol target weight children.now) result m.old (ruled (automaton_of m.old) (record { symbol = symbol; target = target; weight = weight; children = children.now })) m.new }
 {
     let Some(rank) = ranks.rank(symbol) else {

@@ -1,6 +1,6 @@
 -- Counting children: three are kept, and more are four.
 use Rattle.std.proofs.Common.{◌≡◌, ℕ, ◌+◌, ◌<◌, ◌≤◌, min, false, List, [], ◌∷◌, ◌++◌, map, length, get_or, take, set, Decides, refl, ◌∙◌, arith}
-use Rattle.std.specs.List.{AllByRecursion as All}
+use Rattle.std.specs.List.{AllByRecursion}
 use Rattle.std.proofs.ByRecursion.{All-get_or}
 use Rattle.std.proofs.lemmas.List.{get_or-take, length_push, length-take-le, take_all, take-append-le, take_more_set}
 use Rattle.std.proofs.lemmas.Bool.{both_ways}
@@ -28,7 +28,7 @@ module _ (numbers : List ℕ) (count n : ℕ) (width : length numbers ≡ 3) (ns
       let was = k.1 in
       (omega arith, cc)
 
-pub zero_among : (numbers : List ℕ) (count i : ℕ) → count ≤ length numbers → i < count → get_or numbers i 0 ≡ 0 → Decides false (All (λ n. 1 ≤ n) (take count numbers))
+pub zero_among : (numbers : List ℕ) (count i : ℕ) → count ≤ length numbers → i < count → get_or numbers i 0 ≡ 0 → Decides false (AllByRecursion (λ n. 1 ≤ n) (take count numbers))
 zero_among numbers count i few less e =
     let l = length-take-le count numbers few in
     let g = get_or-take count numbers i 0 less in
@@ -38,6 +38,6 @@ zero_among numbers count i few less e =
 pub kept_whole : (numbers : List ℕ) (count : ℕ) (ns : List ℕ) → Kept count numbers ns → count ≤ 3 → (length ns ≡ count) × (take count numbers ≡ ns)
 kept_whole numbers count ns k few = (omega arith, k.1 ∙ take_all 3 ns (omega arith))
 
-pub all_from_map : {X Y : Type 0} (P : Y → Type 0) (f : X → Y) (xs : List X) → All P (map f xs) → All (λ x. P (f x)) xs
+pub all_from_map : {X Y : Type 0} (P : Y → Type 0) (f : X → Y) (xs : List X) → AllByRecursion P (map f xs) → AllByRecursion (λ x. P (f x)) xs
 all_from_map P f [] h = tt
 all_from_map P f (x ∷ xs) h = (h.0, all_from_map P f xs h.1)

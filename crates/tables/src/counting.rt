@@ -1,6 +1,6 @@
 // The children of a rule, one by one.
 ghost use Rattle.std.specs.Prelude.{ℕ, ◌≤◌, List, [], ◌∷◌, ◌++◌, take, Decides};
-ghost use Rattle.std.specs.List.{AllByRecursion as All};
+ghost use Rattle.std.specs.List.{AllByRecursion};
 ghost use Rattle.tables.specs.Tables.{Counts};
 
 use crate::Children;
@@ -33,7 +33,7 @@ impl Children {
     // Whether each of at most three children is declared.
     pub fn declared(&self) -> bool
         requires { self.now.count ≤ 3 }
-        ensures { Decides result (All (λ n. 1 ≤ n) (take self.now.count self.now.numbers)) }
+        ensures { Decides result (AllByRecursion (λ n. 1 ≤ n) (take self.now.count self.now.numbers)) }
     {
         for i in 0..self.count {
             if self.numbers[i] == 0 {

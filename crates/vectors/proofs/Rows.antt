@@ -1,7 +1,7 @@
 -- Rows of an array, and one row more.
 use Rattle.std.proofs.Common.{◌≡◌, ℕ, zero, suc, ◌+◌, ◌-◌, ◌*◌, ◌<◌, ◌≤◌, List, [], ◌∷◌, ◌++◌, length, get_or, take, drop, sym, refl, ap, ◌∙◌, ap₂, inl, inr, add-one, arith, length-drop}
 use lib.Seq.{paste}
-use Rattle.std.specs.List.{AllByRecursion as All}
+use Rattle.std.specs.List.{AllByRecursion}
 use Rattle.std.proofs.ByRecursion.{All-push}
 use Rattle.std.proofs.lemmas.List.{append_assoc, drop_at, drop-take, get_or_append_left, get_or-drop, get_or_push, get_or-take, length_push, length-take-le, take_at, take-take}
 use Rattle.std.proofs.lemmas.Bool.{cases_lt}
@@ -28,7 +28,7 @@ module _ (w : ℕ) (narrow : w ≤ 12) where
   element_at codes n k s less in' =
       ap (λ r. get_or r s 0) (rows_at codes n k less) ∙ get_or-take w (drop (12 * k) codes) s 0 in' ∙ get_or-drop (12 * k) codes s 0
 
-  rows_wide : (codes : List ℕ) (n : ℕ) → 12 * n ≤ length codes → All (λ r. length r ≡ w) (rows w codes n)
+  rows_wide : (codes : List ℕ) (n : ℕ) → 12 * n ≤ length codes → AllByRecursion (λ r. length r ≡ w) (rows w codes n)
   rows_wide codes zero h = tt
   rows_wide codes (suc n) h =
       let l = length-drop (12 * n) codes in
@@ -65,7 +65,7 @@ module _ (w : ℕ) (narrow : w ≤ 12) where
       ∙ ap₂ (λ rs r. rs ++ (r ∷ [])) (rows_front (paste codes (12 * n) vector w) codes n n (omega arith) same) here
 
 -- every vector of the table has as many elements as the table says
-pub vectors_wide : (v : Vectors) → All (λ r. length r ≡ width_of v) (vectors_of v)
+pub vectors_wide : (v : Vectors) → AllByRecursion (λ r. length r ≡ width_of v) (vectors_of v)
 vectors_wide v =
     let places = v.places in
     let few = v.few in

@@ -1,6 +1,6 @@
 -- The sum of the products of two lists, from its last term to its first, and the last of a list.
 use Rattle.std.proofs.Common.{◌≡◌, ℕ, suc, ◌-◌, ◌≤◌, List, [], ◌∷◌, length, get_or, drop, sym, refl, ap, ◌∙◌, ap₂, arith}
-use Rattle.std.specs.List.{AllByRecursion as All}
+use Rattle.std.specs.List.{AllByRecursion}
 use Rattle.std.proofs.ByRecursion.{All-get_or}
 use Rattle.std.proofs.lemmas.List.{drop_all}
 use Rattle.field.specs.Ops.{Ops, dot}
@@ -43,6 +43,6 @@ last_element z vs n i j y some last at is =
 
 -- where all are equally long, the last is so too
 pub length_last :
-    {K : Type 0} (w : ℕ) (vs : List (List K)) → 1 ≤ length vs → All (λ r. length r ≡ w) vs → length (last_or [] vs) ≡ w
+    {K : Type 0} (w : ℕ) (vs : List (List K)) → 1 ≤ length vs → AllByRecursion (λ r. length r ≡ w) vs → length (last_or [] vs) ≡ w
 length_last w vs some wide =
     ap length (last_at [] [] vs some) ∙ All-get_or (λ r. length r ≡ w) vs (length vs - 1) [] (omega arith) wide

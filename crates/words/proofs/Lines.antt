@@ -1,6 +1,6 @@
 -- A text is cut at a byte in one way, and so is a line of fields parted by spaces.
 use Rattle.std.proofs.Common.{◌≡◌, ℕ, ◌+◌, ◌-◌, ◌<◌, List, [], ◌∷◌, ◌++◌, length, get_or, take, drop, sym, refl, ap, ◌∙◌, arith, take-append-drop}
-use Rattle.std.specs.List.{AllByRecursion as All}
+use Rattle.std.specs.List.{AllByRecursion}
 use Rattle.std.proofs.ByRecursion.{All-append}
 use Rattle.std.proofs.lemmas.List.{drop_more, take_rest}
 use Rattle.words.specs.Words.{Cut, Lacks, spaced}
@@ -33,7 +33,7 @@ module _ (b : ℕ) where
   lacks_cut (x ∷ xs) [] rest h e = h.0 (cc)
   lacks_cut (x ∷ xs) (y ∷ front) rest h e = lacks_cut xs front rest h.1 (cc)
 
-  pub spaced_lacks : (32 ≡ b → ⊥) → (fs : List (List ℕ)) → All (Lacks b) fs → Lacks b (spaced fs)
+  pub spaced_lacks : (32 ≡ b → ⊥) → (fs : List (List ℕ)) → AllByRecursion (Lacks b) fs → Lacks b (spaced fs)
   spaced_lacks apart [] h = tt
   spaced_lacks apart (f ∷ []) h = h.0
   spaced_lacks apart (f ∷ g ∷ fs) h = All-append _ f _ h.0 (apart, spaced_lacks apart (g ∷ fs) h.1)
@@ -48,7 +48,7 @@ spaced_some [] fs h e = omega (arith, h.0)
 spaced_some (x ∷ f) [] h e = omega (arith, ap length e)
 spaced_some (x ∷ f) (g ∷ fs) h e = omega (arith, ap length e)
 
-pub spaced_same : (fs gs : List (List ℕ)) → All Field fs → All Field gs → spaced fs ≡ spaced gs → fs ≡ gs
+pub spaced_same : (fs gs : List (List ℕ)) → AllByRecursion Field fs → AllByRecursion Field gs → spaced fs ≡ spaced gs → fs ≡ gs
 spaced_same [] [] h k e = refl
 spaced_same [] (g ∷ gs) h k e = absurd (spaced_some g gs k.0 e)
 spaced_same (f ∷ fs) [] h k e = absurd (spaced_some f fs h.0 (sym e))

@@ -2,7 +2,7 @@
 use Rattle.std.proofs.Common.{◌≡◌, ℕ, ◌-◌, ◌<◌, ◌≤◌, true, false, List, [], ◌∷◌, ◌++◌, length, get_or, take, drop, replicate, Decides, sym, refl, ap, ◌∙◌, subst, inl, inr, arith, length-append, length-drop, take-append-drop}
 use denote.Struct.Props.{props}
 use mathlib.Core.HLevel.{is_prop→PathP}
-use Rattle.std.specs.List.{list_all, AllByRecursion as All}
+use Rattle.std.specs.List.{list_all, AllByRecursion}
 use Rattle.std.proofs.ByRecursion.{All-get_or, All-from_get_or, Decides-by_and}
 use Rattle.std.proofs.lemmas.Bool.{and_parts, and_from, or_left, leb-true, le-leb, both_ways, cases_Bool}
 use Rattle.std.proofs.lemmas.List.{length-take-le, take_at, drop_at, drop-replicate}
@@ -12,7 +12,7 @@ use Rattle.words.specs.declared.name.Name.{Name}
 use Rattle.words.specs.Spelled.{spelled}
 use Rattle.words.specs.Words.{Lacks, small, inner, is_name}
 
-all_inner : (bs : List ℕ) → Decides (list_all inner bs) (All (λ b. inner b ≡ true) bs)
+all_inner : (bs : List ℕ) → Decides (list_all inner bs) (AllByRecursion (λ b. inner b ≡ true) bs)
 all_inner = Decides-by_and inner (λ b. inner b ≡ true) (list_all inner) (λ b. (λ h. h, λ h. h)) refl (λ _ _. refl)
 
 -- what a name looks like
@@ -27,7 +27,7 @@ named [] h = absurd (both_ways false refl h)
 named (b ∷ bs) h =
     let p = and_parts (small b) _ h in
     let q = and_parts (list_all inner bs) _ p.1 in
-    let all : All (λ x. inner x ≡ true) (b ∷ bs) = (or_left (small b) _ p.0, (all_inner bs).0 q.0) in
+    let all : AllByRecursion (λ x. inner x ≡ true) (b ∷ bs) = (or_left (small b) _ p.0, (all_inner bs).0 q.0) in
     record {
       some = omega arith;
       short = omega (arith, leb-true _ _ q.1);

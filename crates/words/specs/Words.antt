@@ -1,10 +1,10 @@
 -- The parts of a line, as bytes: names, numbers, and fields parted by one space.
 use Rattle.std.specs.Prelude.{◌≡◌, ℕ, ◌^◌, ◌<◌, Bool, false, ◌&&◌, ◌||◌, List, [], ◌∷◌, ◌++◌, length, decimal, ◌==◌, ◌≢◌, nat_le}
-use Rattle.std.specs.List.{AllByRecursion as All, list_all}
+use Rattle.std.specs.List.{AllByRecursion, list_all}
 
 -- no byte of the list is b
 abbrev pub Lacks : ℕ → List ℕ → Type 0
-Lacks b xs = All (λ x. x ≢ b) xs
+Lacks b xs = AllByRecursion (λ x. x ≢ b) xs
 
 -- a text cut at its first stop, into the bytes before it and those after it
 abbrev pub Cut : ℕ → List ℕ → List ℕ → List ℕ → Type 0

@@ -1,6 +1,6 @@
 -- Worked cases of the definitions: what each gives, and the value that it must have.
 use Rattle.std.specs.Prelude.{◌≡◌, ℕ, List, [], ◌∷◌, Some, Option}
-use Rattle.std.specs.List.{AllByRecursion as All}
+use Rattle.std.specs.List.{AllByRecursion}
 use Rattle.field.specs.Algebra.{Algebra, inverse}
 use Rattle.prime.specs.Residues.{residues}
 use Rattle.polynomials.specs.Polynomials.{gf256}
@@ -23,4 +23,4 @@ arithmetic =
     ∷ []
 
 abbrev pub AllAsExpected : List Row → Type 0
-AllAsExpected rows = All (λ r. r.given ≡ r.expected) rows
+AllAsExpected rows = AllByRecursion (λ r. r.given ≡ r.expected) rows

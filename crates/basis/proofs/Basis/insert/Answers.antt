@@ -1,5 +1,5 @@
 use Rattle.std.proofs.Common.{◌≡◌, ◌<◌, length, sym, ap, subst, arith}
-use Rattle.std.specs.List.{AllByRecursion as All}
+use Rattle.std.specs.List.{AllByRecursion}
 use Rattle.std.proofs.lemmas.List.{length-append, length-drop, take_at}
 use Rattle.basis.proofs.Bases.{insertable_clears, left_out, taken_in, row_fits}
 use Rattle.basis.proofs.Basis.insert.Goals as goal
@@ -15,7 +15,7 @@ reduce-requires g c =
       field = c.requires.field;
       codes = (
         insertable_clears A b c.args.vector.now c.copy_from_slice.new.self _ c.copy_from_slice.ensures.after (omega arith) fits,
-        subst (All (λ x. x < A.size)) copied fits.3.1,
+        subst (AllByRecursion (λ x. x < A.size)) copied fits.3.1,
       );
       narrow = omega (arith, long, fits.3.0, fits.2.width);
     }

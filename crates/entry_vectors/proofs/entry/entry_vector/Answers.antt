@@ -1,6 +1,6 @@
 use Rattle.std.proofs.Common.{◌-◌, ◌<◌, map, length, drop, sym, refl, ap, ◌∙◌, subst, arith}
 use lib.ListN.{length-map}
-use Rattle.std.specs.List.{AllByRecursion as All}
+use Rattle.std.specs.List.{AllByRecursion}
 use Rattle.std.proofs.lemmas.List.{drop_all}
 use Rattle.field.specs.Algebra.{ops}
 use Rattle.automaton.proofs.Soundness.{all_replicate}
@@ -29,7 +29,7 @@ lead-requires g c =
     let M = automaton_of c.args.m.now in
     let rs = c.rules-rules.result.now in
     let x = c.index-rules-i in
-    let rules = subst (λ ys. All (SoundRule q (states M)) ys) (sym c.rules-rules.ensures.holds) c.requires.1.0.rules in
+    let rules = subst (λ ys. AllByRecursion (SoundRule q (states M)) ys) (sym c.rules-rules.ensures.holds) c.requires.1.0.rules in
     let rule = all_image rule_model rs (c.loop-i.i - 1) x.result (omega arith) x.is (SoundRule q (states M)) rules in (
       c.requires.0,
       (

@@ -1,7 +1,7 @@
 use Rattle.std.proofs.Common.{false, refl, subst}
 use Rattle.automaton.specs.Tables.{automaton_of}
 use Rattle.session.specs.Calls.{StateOf}
-use Rattle.std.specs.List.{AllByRecursion as All}
+use Rattle.std.specs.List.{AllByRecursion}
 use Rattle.std.proofs.ByRecursion.{All-get_or, All-more}
 use Rattle.std.proofs.lemmas.List.{take_all}
 use Rattle.std.proofs.lemmas.Bool.{both_ways}
@@ -23,7 +23,7 @@ loop-i-preserved c =
 pub returns : goal.returns
 returns c = (
   λ _.
-      subst (All (StateOf (automaton_of c.args.m.now))) (take_all c.loop-i.i c.args.states.now c.loop-i-test.false)
+      subst (AllByRecursion (StateOf (automaton_of c.args.m.now))) (take_all c.loop-i.i c.args.states.now c.loop-i-test.false)
       c.loop-i.invariant,
   λ _. refl,
 )

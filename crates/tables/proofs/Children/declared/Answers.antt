@@ -1,5 +1,5 @@
 use Rattle.std.proofs.Common.{◌≡◌, ◌≤◌, take, refl, subst, arith}
-use Rattle.std.specs.List.{AllByRecursion as All}
+use Rattle.std.specs.List.{AllByRecursion}
 use Rattle.std.proofs.ByRecursion.{All-more}
 use Rattle.tables.proofs.Kept.{zero_among}
 use Rattle.tables.proofs.Children.declared.Goals as goal
@@ -15,4 +15,4 @@ returns-then-self-i-eq0 c =
 pub returns : goal.returns
 returns c =
     let e : c.loop-i.i ≡ c.args.self.now.count = omega arith in
-    (λ _. subst (λ i. All (λ n. 1 ≤ n) (take i c.args.self.now.numbers)) e c.loop-i.invariant, λ _. refl)
+    (λ _. subst (λ i. AllByRecursion (λ n. 1 ≤ n) (take i c.args.self.now.numbers)) e c.loop-i.invariant, λ _. refl)
