@@ -7,7 +7,7 @@ ghost use Rattle.lines.specs.Recognized.{side_of};
 ghost use Rattle.line_writer.specs.Writing.{Puts, step_line};
 ghost use Rattle.writer.specs.Blocks.{field_block, rule_block, state_block, symbol_block};
 
-use crate::field::{kind_of, steps_of};
+use crate::naming::{kind_of, steps_of};
 use drafts::Draft;
 use line_writer::{put_kind, put_rule, put_state, put_step, put_symbol};
 use lines::Side;

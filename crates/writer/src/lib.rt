@@ -11,7 +11,7 @@ use crate::blocks::{put_both_rules, put_both_states, put_field, put_symbols};
 use drafts::Draft;
 
 mod blocks;
-mod field;
+mod naming;
 
 // Writes the text as far as the buffer reaches, and answers its length.
 pub fn put_record(out: &mut [u8], d: &Draft) -> usize
