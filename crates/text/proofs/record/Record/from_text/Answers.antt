@@ -9,7 +9,7 @@ returns-in_err-draft c =
     rw (p.1, p.2) (refused c.args.text.now _ c.in_err-draft.ensures)
 
 pub invariant_of-result : goal.invariant_of-result
-invariant_of-result c = (∣ valid c.args.text.now (record_of c.in_ok-draft.draft) c.in_ok-draft.ensures ∣₁, tt)
+invariant_of-result c = record { valid = ∣ valid c.args.text.now (record_of c.in_ok-draft.draft) c.in_ok-draft.ensures ∣₁ }
 
 pub returns : goal.returns
 returns c = stands_for c.args.text.now (record_of c.in_ok-draft.draft) c.in_ok-draft.ensures
