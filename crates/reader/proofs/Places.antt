@@ -2,7 +2,6 @@
 use Rattle.std.proofs.Common.{◌≡◌, ℕ, List, Result, refl, subst}
 use Rattle.std.proofs.lemmas.Result.{MatchResult-weaker}
 use Rattle.format.specs.Lines.{Line, declares_state, gives_rule}
-use Rattle.format.specs.Reading as reading
 use Rattle.format.specs.Reading.{Place, after}
 use Rattle.lines.specs.Recognized.{side_of}
 use Rattle.lines.specs.declared.line.Side.{Side}

@@ -1,6 +1,6 @@
 -- Accepted and refused texts, and the records that they are or are not the texts of. Assumes nothing.
 use Rattle.std.proofs.Common.{◌≡◌, ℕ, List, subst}
-use Rattle.format.specs.Reading.{Accepted, Faulty}
+use Rattle.format.specs.Reading.{Accepted}
 use Rattle.format.specs.Records.{Record, ValidRecord, text_of}
 use Rattle.format.proofs.Texts.{accepted_is_its_text, text_is_accepted}
 use Rattle.format.proofs.Unique.{accepted_as_one, never_both}

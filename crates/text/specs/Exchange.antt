@@ -1,13 +1,10 @@
 -- What reading and writing a record give.
-use Rattle.std.specs.Prelude.{◌≡◌, ℕ, List, Result, MatchResult, ◌≢◌}
+use Rattle.std.specs.Prelude.{◌≡◌, ℕ, List, ◌≢◌}
 use Rattle.format.specs.Reading.{Accepted, Faulty}
 use Rattle.format.specs.Records as records
 use Rattle.format.specs.Records.{ValidRecord, text_of}
 use Rattle.reader.specs.declared.fault.Fault.{Fault}
 use Rattle.refusals.specs.Numbers.{number}
-use Rattle.refusals.specs.declared.Refusal.{Refusal}
-use Rattle.refusals.specs.declared.Refusal.TheVariants.{BufferTooShort}
-use Rattle.writer.specs.Declared.{Holds, TooShort}
 use Rattle.drafts.specs.Drafts.{record_of}
 use Rattle.text.specs.declared.record.Record.{Record}
 

@@ -1,8 +1,8 @@
-use Rattle.std.proofs.Common.{◌≡◌, ℕ, ◌+◌, ◌-◌, ◌<◌, ◌≤◌, List, [], ◌∷◌, ◌++◌, length, sym, refl, ap, ◌∙◌, subst, arith, length-append}
+use Rattle.std.proofs.Common.{◌≡◌, ℕ, ◌+◌, ◌-◌, ◌<◌, ◌≤◌, List, [], ◌∷◌, length, sym, refl, ap, subst, arith, length-append}
 use Rattle.std.proofs.lemmas.Bool.{false≢true}
 use Rattle.words.specs.Words.{Cut}
-use Rattle.format.specs.Reading.{Draft, Faulty, after}
-use Rattle.format.proofs.Loop.{ReadSoFar, so_far_more, so_far_fault, so_far_stops, so_far_done}
+use Rattle.format.specs.Reading.{Draft, Faulty}
+use Rattle.format.proofs.Loop.{ReadSoFar, so_far_more, so_far_stops, so_far_done}
 use Rattle.reader.specs.Reads.{meaning}
 use Rattle.reader.proofs.read.Goals as goal
 use Rattle.reader.proofs.read.Goals.{then-rest-gt0-via-then-rest-gt0, then-rest-gt0-via-else-rest-gt0+then-not-is_end}

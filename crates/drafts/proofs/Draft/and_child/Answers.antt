@@ -1,4 +1,4 @@
-use Rattle.std.proofs.Common.{◌≡◌, sym, ap, ◌∙◌}
+use Rattle.std.proofs.Common.{ap, ◌∙◌}
 use Rattle.format.specs.Reading.{number_of}
 use Rattle.format.specs.Records.{state_names}
 use Rattle.tables.specs.Tables.{states_of}

@@ -1,4 +1,4 @@
-use Rattle.std.proofs.Common.{◌≡◌, subst}
+use Rattle.std.proofs.Common.{subst}
 use Rattle.extension.specs.Extension.{Extends}
 use Rattle.tables.specs.Tables.{symbols_of}
 use Rattle.drafts.specs.Drafts.{part_of}

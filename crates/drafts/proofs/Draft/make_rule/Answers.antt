@@ -1,4 +1,4 @@
-use Rattle.std.proofs.Common.{◌≡◌, ℕ, false, List, length, sym, refl, ap, ◌∙◌, inl, inr, arith}
+use Rattle.std.proofs.Common.{ℕ, false, List, sym, refl, ap, ◌∙◌, inl, inr, arith}
 use lib.ListN.{length-map}
 use Rattle.std.proofs.lemmas.Bool.{both_ways}
 use Rattle.format.specs.Reading.{Place}

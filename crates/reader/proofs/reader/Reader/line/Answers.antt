@@ -1,4 +1,4 @@
-use Rattle.std.proofs.Common.{◌≡◌, true, sym, refl, ◌∙◌, subst, inl, inr}
+use Rattle.std.proofs.Common.{sym, refl, ◌∙◌, subst, inl, inr}
 use Rattle.std.proofs.lemmas.Result.{MatchResult-weaker}
 use Rattle.std.proofs.lemmas.Bool.{false≢true}
 use Rattle.format.specs.Lines.{Line}

@@ -1,4 +1,4 @@
-use Rattle.std.proofs.Common.{◌≡◌, ap, ◌∙◌}
+use Rattle.std.proofs.Common.{ap, ◌∙◌}
 use Rattle.shapes.specs.Shapes.{algebra}
 use Rattle.drafts.proofs.Towers.{algebra_is_tower}
 use Rattle.text.proofs.record.Record.field.Goals as goal
