@@ -1,6 +1,6 @@
 // An invariant in the type of a struct that is generic over a field: a value of zero size that holds the proof.
-// A plain ghost field holds a fact only where it is known to have one proof at most, and of what a bound's ghost members
-// say nobody knows that; a `Holds` asks it of no fact, and a struct that keeps one beside its state needs no `requires` on
+// A plain ghost field takes only a fact of which there is one proof at most, and that is not known of what a bound's ghost
+// members say; the invariant of a model takes any. A struct that keeps a `Holds` beside its state needs no `requires` on
 // its methods.
 #![tactic(auto)]
 
