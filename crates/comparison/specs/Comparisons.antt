@@ -1,5 +1,6 @@
 -- What a comparison stands for.
 use Rattle.std.specs.Prelude.{◌≡◌, ℕ, Result, MatchResult}
+use Rattle.field.specs.declared.Field.{Ghosts}
 use Rattle.engine.specs.States.{session_of}
 use Rattle.engine.specs.declared.state.State.{State}
 use Rattle.refusals.specs.declared.Refusal.{Refusal}
@@ -8,13 +9,13 @@ use Rattle.session.specs.Sessions.{Session}
 use Rattle.comparison.specs.declared.comparison.Comparison.{Comparison}
 use Rattle.comparison.specs.declared.counts.Counts.{Counts}
 
-abbrev pub state_of : {X : Type 0} → Comparison X → State X
+abbrev pub state_of : {X : Type 0} {g : Ghosts X} → Comparison X g → State X
 state_of c = c.state
 
-abbrev pub field_of : {X : Type 0} → Comparison X → X
+abbrev pub field_of : {X : Type 0} {g : Ghosts X} → Comparison X g → X
 field_of c = c.state.field
 
-abbrev pub session : {X : Type 0} → Comparison X → Session
+abbrev pub session : {X : Type 0} {g : Ghosts X} → Comparison X g → Session
 session c = session_of c.state
 
 -- the state counts of the sides

@@ -1,8 +1,8 @@
 -- The sessions on the way from a beginning to the record's automata. Assumes nothing.
-use Rattle.std.proofs.Common.{◌≡◌, ℕ, List, [], map, length, sym, refl, ap, ◌∙◌, subst}
+use Rattle.std.proofs.Common.{◌≡◌, ℕ, List, [], map, length, sym, ap, ◌∙◌, subst}
 use mathlib.Core.List.{map-map}
 use lib.ListN.{length-map, length-replicate}
-use Rattle.equivalence.specs.Automata.{Automaton, Rule, states}
+use Rattle.equivalence.specs.Automata.{Automaton, states}
 use Rattle.format.specs.Records.{Part, Record, State, Symbol, automaton}
 use Rattle.rules.specs.Rules.{rule_model}
 use Rattle.rules.specs.declared.tables.Rule as rules

@@ -2,9 +2,9 @@
 use Rattle.std.proofs.Common.{◌≡◌, ℕ, zero, suc, ◌+◌, ◌-◌, ◌<◌, ◌≤◌, List, [], ◌∷◌, ◌++◌, length, set, sym, refl, ap, ◌∙◌, subst, append_assoc, append-nil, arith}
 use Rattle.std.specs.List.{AllByRecursion}
 use Rattle.field.specs.Algebra.{Algebra}
-use Rattle.equivalence.specs.Automata.{Automaton, Rule, states}
+use Rattle.equivalence.specs.Automata.{Rule, states}
 use Rattle.refusals.specs.declared.Refusal.{Refusal}
-use Rattle.session.specs.Calls.{AllPass, FirstFailing, call_final, call_rule, call_symbol, checks}
+use Rattle.session.specs.Calls.{FirstFailing, call_final, call_rule, call_symbol, checks}
 use Rattle.session.specs.Sessions.{Session, side, with_final, with_rule, with_side, with_sides, with_symbol}
 use Rattle.session.specs.Validity.{ValidRule}
 use Rattle.session.specs.declared.Phase.TheVariants.{Open}

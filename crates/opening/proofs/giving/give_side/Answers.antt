@@ -1,6 +1,6 @@
-use Rattle.std.proofs.Common.{◌≤◌, map, length, sym, ap, ◌∙◌, subst, arith}
+use Rattle.std.proofs.Common.{◌≤◌, map, length, sym, ◌∙◌, subst, arith}
 use lib.ListN.{length-map}
-use Rattle.comparison.specs.Comparisons.{field_of, session}
+use Rattle.comparison.specs.Comparisons.{session}
 use Rattle.rules.specs.Rules.{rule_model}
 use Rattle.opening.specs.Opening.{final_of}
 use Rattle.opening.proofs.Steps.{ReadyForRules, ready_for_rules, side_given}

@@ -1,7 +1,6 @@
 use Rattle.std.proofs.Common.{◌≡◌, ◌+◌, ◌≤◌, length, ap, ◌∙◌, arith}
-use Rattle.comparison.specs.Comparisons.{field_of, session}
+use Rattle.comparison.specs.Comparisons.{session}
 use Rattle.field.specs.Algebra.{Algebra}
-use Rattle.format.specs.Records as records
 use Rattle.session.specs.Sessions.{Session}
 use Rattle.tables.specs.Tables.{state_of, symbol_of}
 use Rattle.text.specs.Exchange.{declared}
