@@ -23,13 +23,15 @@ GOAL = re.compile(r":\s*(?:goal|need|given|rules?)\.")
 # Facts whose first word names something else, and names that would fall together.
 BY_HAND = {
     "Coded-set": "CodedSet",
+    "Goes_on": "GoesOn",
+    "Laid_out": "LaidOut",
     "conjugate-times": "conjugate_product",
     "kind-of": "shape_kind",
     "rule-of": "rule_model",
 }
 
 # Names that look like the checker's own, and names whose declaration has another form.
-ALSO = """Coded-set admitted-fits automaton-kept codes-kept finals-kept grown-kept has-kept-by is-led low-enough mul-mod-mod named-fits no-rule none-higher
+ALSO = """Coded-set Goes_on Laid_out admitted-fits automaton-kept codes-kept finals-kept grown-kept has-kept-by is-led low-enough mul-mod-mod named-fits no-rule none-higher
 of-kept product-through rest-same side-at square-fits the-rule value-at""".split()
 
 

@@ -5,7 +5,7 @@ use Rattle.std.proofs.ByRecursion.{All-get_or, All-from_get_or}
 use Rattle.std.proofs.lemmas.List.{get_or-drop, get_or-map, get_or-take, length-take-le, map_more, take_all}
 use Rattle.equivalence.specs.Trees.{Declared, rank}
 use Rattle.equivalence.specs.Entries as entries
-use Rattle.equivalence.specs.Entries.{Laid_out, LaidOutFrom, WellFormed}
+use Rattle.equivalence.specs.Entries.{LaidOut, LaidOutFrom, WellFormed}
 use Rattle.automaton.specs.declared.tables.Entry.{Entry}
 use Rattle.automaton.specs.Tables.{Child, entry_of}
 
@@ -13,7 +13,7 @@ module _ (ranks : List ℕ) (n : ℕ) (e : entries.Entry) (three : length e.chil
   abbrev k : ℕ
   k = rank ranks e.symbol
 
-  pub laid_from_places : Declared ranks e.symbol → ((i : ℕ) → i < 3 → Child k n i (get_or e.children i 0)) → Laid_out ranks n e
+  pub laid_from_places : Declared ranks e.symbol → ((i : ℕ) → i < 3 → Child k n i (get_or e.children i 0)) → LaidOut ranks n e
   laid_from_places declared fit =
       let cs = e.children in
       let l = length-take k cs in
@@ -31,7 +31,7 @@ module _ (ranks : List ℕ) (n : ℕ) (e : entries.Entry) (three : length e.chil
             (λ i h. get_or-drop k cs i 0 ∙ (fit (k + i) (omega arith)).rest (omega arith));
       }
 
-  pub place_from_laid : Laid_out ranks n e → (i : ℕ) → i < 3 → Child k n i (get_or e.children i 0)
+  pub place_from_laid : LaidOut ranks n e → (i : ℕ) → i < 3 → Child k n i (get_or e.children i 0)
   place_from_laid h i less =
       let cs = e.children in
       let l = length-take k cs in
@@ -49,27 +49,27 @@ module _ (ranks : List ℕ) (n : ℕ) (e : entries.Entry) (three : length e.chil
       }
 
 module _ (ranks : List ℕ) where
-  laid_push : (n m : ℕ) (es : List entries.Entry) (e : entries.Entry) → LaidOutFrom ranks n es → m ≡ n + length es → Laid_out ranks m e → LaidOutFrom ranks n (es ++ (e ∷ []))
+  laid_push : (n m : ℕ) (es : List entries.Entry) (e : entries.Entry) → LaidOutFrom ranks n es → m ≡ n + length es → LaidOut ranks m e → LaidOutFrom ranks n (es ++ (e ∷ []))
   laid_push n m [] e h at k =
       let same : m ≡ n = omega arith in
-      (subst (λ j. Laid_out ranks j e) same k, tt)
+      (subst (λ j. LaidOut ranks j e) same k, tt)
   laid_push n m (d ∷ es) e h at k = (h.0, laid_push (suc n) m es e h.1 (omega arith) k)
 
-  laid_at : (n m : ℕ) (es : List entries.Entry) (i : ℕ) (d : entries.Entry) → LaidOutFrom ranks n es → i < length es → m ≡ n + i → Laid_out ranks m (get_or es i d)
+  laid_at : (n m : ℕ) (es : List entries.Entry) (i : ℕ) (d : entries.Entry) → LaidOutFrom ranks n es → i < length es → m ≡ n + i → LaidOut ranks m (get_or es i d)
   laid_at n m [] i d h less at = absurd (omega arith)
   laid_at n m (e ∷ es) zero d h less at =
       let same : n ≡ m = omega arith in
-      subst (λ j. Laid_out ranks j e) same h.0
+      subst (λ j. LaidOut ranks j e) same h.0
   laid_at n m (e ∷ es) (suc i) d h less at = laid_at (suc n) m es i d h.1 (omega arith) (omega arith)
 
   module _ (xs : List Entry) (i : ℕ) (x : Entry) (less : i < length xs) (is : x ≡ get_or xs i x) where
-    pub laid_entry : LaidOutFrom ranks 0 (map entry_of xs) → Laid_out ranks i (entry_of x)
+    pub laid_entry : LaidOutFrom ranks 0 (map entry_of xs) → LaidOut ranks i (entry_of x)
     laid_entry h =
         let l = length-map xs entry_of in
         let e : get_or (map entry_of xs) i (entry_of x) ≡ entry_of x = get_or-map entry_of xs i x (entry_of x) less ∙ ap entry_of (sym is) in
-        subst (Laid_out ranks i) e (laid_at 0 i (map entry_of xs) i (entry_of x) h (omega arith) (omega arith))
+        subst (LaidOut ranks i) e (laid_at 0 i (map entry_of xs) i (entry_of x) h (omega arith) (omega arith))
 
-    pub laid_more : LaidOutFrom ranks 0 (map entry_of (take i xs)) → Laid_out ranks i (entry_of x) → LaidOutFrom ranks 0 (map entry_of (take (i + 1) xs))
+    pub laid_more : LaidOutFrom ranks 0 (map entry_of (take i xs)) → LaidOut ranks i (entry_of x) → LaidOutFrom ranks 0 (map entry_of (take (i + 1) xs))
     laid_more h k =
         let l = length-map (take i xs) entry_of in
         let m = length-take-le i xs (omega arith) in

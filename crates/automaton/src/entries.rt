@@ -1,7 +1,7 @@
 // Lists of entries that stand for trees.
 ghost use Rattle.std.specs.Prelude.{◌<◌, ◌≤◌, map, length, Decides};
 ghost use Rattle.automaton.specs.Tables.{Child, entry_of, ranks_of};
-ghost use Rattle.equivalence.specs.Entries.{Laid_out, WellFormed};
+ghost use Rattle.equivalence.specs.Entries.{LaidOut, WellFormed};
 
 use crate::tables::{Entry, Ranks};
 
@@ -18,7 +18,7 @@ fn fits(place: usize, rank: usize, child: usize, before: usize) -> bool
 
 // Whether an entry keeps to the layout, with so many entries before it.
 fn laid_out(ranks: &Ranks, before: usize, e: &Entry) -> bool
-    ensures { Decides result (Laid_out (ranks_of ranks.now) before (entry_of e.now)) }
+    ensures { Decides result (LaidOut (ranks_of ranks.now) before (entry_of e.now)) }
 {
     let Some(rank) = ranks.rank(e.symbol) else {
         return false;

@@ -13,7 +13,7 @@ use Rattle.equivalence.specs.Trees.{Tree, Forest, node, bare, more, rank, Declar
 use Rattle.equivalence.specs.Automata.{Sides, Sound, value, dimension}
 use Rattle.equivalence.specs.Entries.{named, last_of}
 use Rattle.equivalence.specs.Tries.{Try, turns}
-use Rattle.equivalence.specs.Exploration.{built, Differ, Depends, next, EndedDiffers, EndedEqual, Goes_on, Explored, Equivalent}
+use Rattle.equivalence.specs.Exploration.{built, Differ, Depends, next, EndedDiffers, EndedEqual, GoesOn, Explored, Equivalent}
 use Rattle.equivalence.specs.Theorems.{LowestDifference, Bounds, EqualIsExact, DiffersIsExactAndLowest, VerdictIsExact, AlwaysBounded}
 use Rattle.equivalence.proofs.Kept.{tall, Rising, named_more}
 use Rattle.equivalence.proofs.Members.{all_from_has, has_kept_by, kept_by_has, has_map, map_has}
@@ -184,7 +184,7 @@ module _ (A : Algebra) (L : Lawful A) (S : Sides ℕ) (sa : Sound A.size S.a) (s
   known_kept :
       (n : ℕ) (kept : List Tree)
       → Known n kept
-      → Goes_on A S n kept
+      → GoesOn A S n kept
       → let t = built kept (next S.ranks n kept) in (Depends A S kept t → ⊥) → Known (suc n) (kept ++ (t ∷ []))
   known_kept n kept k on new =
       let t = built kept (next S.ranks n kept) in
@@ -218,7 +218,7 @@ module _ (A : Algebra) (L : Lawful A) (S : Sides ℕ) (sa : Sound A.size S.a) (s
   known_same :
       (n : ℕ) (kept : List Tree)
       → Known n kept
-      → Goes_on A S n kept
+      → GoesOn A S n kept
       → Depends A S kept (built kept (next S.ranks n kept))
       → Known (suc n) kept
   known_same n kept k on dep =

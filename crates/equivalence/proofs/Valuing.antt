@@ -8,7 +8,7 @@ use Rattle.field.specs.Ops.{Ops, dot}
 use Rattle.field.specs.Algebra.{ops}
 use Rattle.equivalence.specs.Trees.{Tree, node, bare, rank}
 use Rattle.equivalence.specs.Automata.{Automaton, Sound, states, along, vector, value, numbers}
-use Rattle.equivalence.specs.Entries.{Entry, Laid_out, LaidOutFrom, WellFormed, named, grown, trees, last_of, tree_of}
+use Rattle.equivalence.specs.Entries.{Entry, LaidOut, LaidOutFrom, WellFormed, named, grown, trees, last_of, tree_of}
 use Rattle.equivalence.specs.Theorems.{ValuesOfEntries}
 use Rattle.equivalence.specs.Valuing.{through, entry_vector, vectors_from, vectors_of, last_or, value_of}
 use Rattle.equivalence.proofs.Values.{Bounded, State, getD_vector, element_by}
@@ -36,7 +36,7 @@ last_map f x (t ∷ []) h = refl
 last_map f x (t ∷ u ∷ ts) h = last_map f x (u ∷ ts) (omega arith)
 
 -- every child number of an entry is 0 or names an earlier entry
-pub children_earlier : (ranks : List ℕ) (n : ℕ) (e : Entry) → Laid_out ranks n e → AllByRecursion (λ c. c ≤ n) e.children
+pub children_earlier : (ranks : List ℕ) (n : ℕ) (e : Entry) → LaidOut ranks n e → AllByRecursion (λ c. c ≤ n) e.children
 children_earlier ranks n e h =
     let k = rank ranks e.symbol in
     rw (← take-append-drop k e.children)
@@ -74,7 +74,7 @@ module _ {K : Type 0} (o : Ops K) (M : Automaton K) where
   module _ (bounded : Bounded M) (ranks : List ℕ) where
     pub vector_entry :
         (ts : List Tree) (e : Entry)
-        → Laid_out ranks (length ts) e
+        → LaidOut ranks (length ts) e
         → vector o M (node e.symbol (named ts e.children)) ≡ entry_vector o M (map (vector o M) ts) e
     vector_entry ts e h =
         let earlier = children_earlier ranks (length ts) e h in

@@ -32,7 +32,7 @@ tree_of es = last_of (trees es)
 
 -- An entry with n entries before it: its symbol is declared, of its three child numbers the first, as many as the rank,
 -- name earlier entries, and the others are 0.
-pub record Laid_out (ranks : List ℕ) (n : ℕ) (e : Entry) : Type 0 where
+pub record LaidOut (ranks : List ℕ) (n : ℕ) (e : Entry) : Type 0 where
   pub declared : Declared ranks e.symbol
   pub three : length e.children ≡ 3
   pub named : AllByRecursion (λ c. (1 ≤ c) × (c ≤ n)) (take (rank ranks e.symbol) e.children)
@@ -40,7 +40,7 @@ pub record Laid_out (ranks : List ℕ) (n : ℕ) (e : Entry) : Type 0 where
 
 abbrev pub LaidOutFrom : List ℕ → ℕ → List Entry → Type 0
 LaidOutFrom ranks n [] = Unit {0}
-LaidOutFrom ranks n (e ∷ es) = Laid_out ranks n e × LaidOutFrom ranks (suc n) es
+LaidOutFrom ranks n (e ∷ es) = LaidOut ranks n e × LaidOutFrom ranks (suc n) es
 
 -- a list that stands for a tree
 pub record WellFormed (ranks : List ℕ) (es : List Entry) : Type 0 where

@@ -37,8 +37,8 @@ abbrev pub EndedEqual : Algebra → Sides ℕ → ℕ → List Tree → Type 0
 EndedEqual A S n kept = (EndedDiffers A S kept → ⊥) × (Left S.ranks n kept → ⊥)
 
 -- It goes on otherwise.
-abbrev pub Goes_on : Algebra → Sides ℕ → ℕ → List Tree → Type 0
-Goes_on A S n kept = (EndedDiffers A S kept → ⊥) × Left S.ranks n kept
+abbrev pub GoesOn : Algebra → Sides ℕ → ℕ → List Tree → Type 0
+GoesOn A S n kept = (EndedDiffers A S kept → ⊥) × Left S.ranks n kept
 
 -- What a try does to the kept trees: its tree is kept, as the next, exactly where it does not depend on them.
 abbrev pub Tried : Algebra → Sides ℕ → ℕ → List Tree → List Tree → Type 0
@@ -49,7 +49,7 @@ Tried A S n before after =
 -- n tries lead from nothing to these kept trees, none of them made after the end.
 abbrev pub Explored : Algebra → Sides ℕ → ℕ → List Tree → Type 0
 Explored A S zero kept = kept ≡ []
-Explored A S (suc n) kept = (before : List Tree) × Explored A S n before × Goes_on A S n before × Tried A S n before kept
+Explored A S (suc n) kept = (before : List Tree) × Explored A S n before × GoesOn A S n before × Tried A S n before kept
 
 -- no finite tree over the symbols has different values
 abbrev pub Equivalent : Algebra → Sides ℕ → Type 0
