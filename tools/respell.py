@@ -22,7 +22,6 @@ MADE = re.compile(r"^(?:returns|loop|invariant|decreases|overflow|bounds|slice_b
 GOAL = re.compile(r":\s*(?:goal|need|given|rules?)\.")
 # Facts whose first word names something else, and names that would fall together.
 BY_HAND = {
-    "Coded-set": "CodedSet",
     "Goes_on": "GoesOn",
     "Laid_out": "LaidOut",
     "conjugate-times": "conjugate_product",
@@ -31,7 +30,7 @@ BY_HAND = {
 }
 
 # Names that look like the checker's own, and names whose declaration has another form.
-ALSO = """Coded-set Goes_on Laid_out admitted-fits automaton-kept codes-kept finals-kept grown-kept has-kept-by is-led low-enough mul-mod-mod named-fits no-rule none-higher
+ALSO = """Goes_on Laid_out admitted-fits automaton-kept codes-kept finals-kept grown-kept has-kept-by is-led low-enough mul-mod-mod named-fits no-rule none-higher
 of-kept product-through rest-same side-at square-fits the-rule value-at""".split()
 
 

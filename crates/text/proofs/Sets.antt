@@ -1,6 +1,6 @@
 -- Between two records there is at most one equation. Assumes nothing.
 use Rattle.std.proofs.Common.{◌≡◌, ℕ, List, refl, ap, arith}
-use base.Stored.{Coded, CodedSet, coded_list, coded_via, coded_ℕ, coded×}
+use base.Stored.{Coded, Coded-set, coded_list, coded_via, coded_ℕ, coded×}
 use Rattle.equivalence.specs.Automata.{Rule}
 use Rattle.shapes.specs.declared.shape.Kind.{Kind}
 use Rattle.shapes.specs.declared.shape.Kind.TheVariants.{Residues, Bytes}
@@ -46,4 +46,4 @@ records =
     record { kind = (e i).0.0; steps = (e i).0.1; symbols = (e i).1.0; a = (e i).1.1.0; b = (e i).1.1.1 })
 
 pub record_set : IsSet Record
-record_set = CodedSet records
+record_set = Coded-set records
