@@ -7,11 +7,9 @@ use crate::shape::Shape;
 use field::Field;
 
 impl Field for Given {
-    ghost valid = { λ g. Unit {0} };
-
     ghost model = { λ g. algebra g.shape };
 
-    ghost laws = { λ g h. shape_lawful g.shape (valid_from_test g.shape g.ok) };
+    ghost laws = { λ g. shape_lawful g.shape (valid_from_test g.shape g.ok) };
 
     fn size(&self) -> u64 {
         Given::size(self)
