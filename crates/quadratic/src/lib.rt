@@ -130,9 +130,11 @@ impl<F: Field> Pair<F> {
 }
 
 impl<F: Field> Field for Pair<F> {
+    ghost use Rattle.quadratic.specs.Known.{extends};
+
     ghost model = { λ p. extension (F.Field.model p.base) p.u p.v };
 
-    ghost laws = { λ p. extension_lawful (F.Field.model p.base) (F.Field.laws p.base) p.u p.v (record { small = p.small; u_below = p.u_below; v_below = p.v_below; no_root = p.no_root }) };
+    ghost laws = { λ p. extension_lawful (F.Field.model p.base) (F.Field.laws p.base) p.u p.v (extends p) };
 
     fn size(&self) -> u64 {
         let q = self.base.size();

@@ -1,22 +1,28 @@
-// A given shape as a field: what is known of it in its type is all that a field has to be.
+// A shape as a field.
 ghost use Rattle.shapes.specs.Shapes.{algebra};
-ghost use Rattle.shapes.specs.Laws.{shape_lawful, valid_from_test};
+ghost use Rattle.shapes.specs.Laws.{shape_lawful};
 
-use crate::given::Given;
 use crate::shape::Shape;
 use field::Field;
 
-impl Field for Given {
-    ghost model = { λ g. algebra g.shape };
+impl Field for Shape {
+    ghost model = { algebra };
 
-    ghost laws = { λ g. shape_lawful g.shape (valid_from_test g.shape g.ok) };
+    ghost laws = { shape_lawful };
 
     fn size(&self) -> u64 {
-        Given::size(self)
+        match self {
+            Shape::Prime(f) => f.size(),
+            Shape::Byte(f) => f.size(),
+            Shape::PrimePair(f) => f.size(),
+            Shape::BytePair(f) => f.size(),
+            Shape::PrimeTower(f) => f.size(),
+            Shape::ByteTower(f) => f.size(),
+        }
     }
 
     fn add(&self, a: u32, b: u32) -> u32 {
-        match self.shape() {
+        match self {
             Shape::Prime(f) => f.add(a, b),
             Shape::Byte(f) => f.add(a, b),
             Shape::PrimePair(f) => f.add(a, b),
@@ -27,7 +33,7 @@ impl Field for Given {
     }
 
     fn mul(&self, a: u32, b: u32) -> u32 {
-        match self.shape() {
+        match self {
             Shape::Prime(f) => f.mul(a, b),
             Shape::Byte(f) => f.mul(a, b),
             Shape::PrimePair(f) => f.mul(a, b),
@@ -38,7 +44,7 @@ impl Field for Given {
     }
 
     fn neg(&self, a: u32) -> u32 {
-        match self.shape() {
+        match self {
             Shape::Prime(f) => f.neg(a),
             Shape::Byte(f) => f.neg(a),
             Shape::PrimePair(f) => f.neg(a),
@@ -49,7 +55,7 @@ impl Field for Given {
     }
 
     fn inv(&self, a: u32) -> Option<u32> {
-        match self.shape() {
+        match self {
             Shape::Prime(f) => f.inv(a),
             Shape::Byte(f) => f.inv(a),
             Shape::PrimePair(f) => f.inv(a),

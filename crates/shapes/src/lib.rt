@@ -2,5 +2,5 @@
 #![tactic(auto)]
 
 mod arithmetic;
-pub mod given;
+mod making;
 pub mod shape;

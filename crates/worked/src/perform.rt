@@ -7,7 +7,7 @@ use field::{Field, divide};
 
 // The operation's result at two codes of the field.
 pub fn perform<F: Field>(f: &F, op: Op, a: u32, b: u32) -> Option<u32>
-    requires { (F.Field.valid f.now) × ((a < (F.Field.model f.now).size) × (b < (F.Field.model f.now).size)) }
+    requires { (a < (F.Field.model f.now).size) × (b < (F.Field.model f.now).size) }
     ensures { Gives (F.Field.model f.now) op a b result }
 {
     match op {

@@ -18,7 +18,7 @@ returns c =
     record {
       value =
           sym
-          (inverse_is gf256 ring (lit≤ tt) c.args.a c.cyclic_power.result c.requires.1 r.below
+          (inverse_is gf256 ring (lit≤ tt) c.args.a c.cyclic_power.result c.requires r.below
           (ap (times c.args.a) r.value ∙ power_inverse c.args.a c.in_ok-i.i is.2 is.1));
       below = r.below;
     }

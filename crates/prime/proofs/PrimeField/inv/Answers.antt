@@ -28,4 +28,4 @@ returns c =
     let prime = admitted_prime p c.args.self.now.listed in
     let l = c.loop-x in
     let one = l.invariant.3 ∙ c.loop-x-test.false in
-    record { value = sym (inverse_found p prime c.args.a l.m c.requires.1 l.invariant.2 one); below = l.invariant.2 }
+    record { value = sym (inverse_found p prime c.args.a l.m c.requires l.invariant.2 one); below = l.invariant.2 }
