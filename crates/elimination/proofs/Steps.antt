@@ -6,6 +6,7 @@ use Rattle.std.proofs.lemmas.List.FromFn.{fill_by_all}
 use Rattle.std.proofs.lemmas.List.Sums.{fold_push}
 use Rattle.std.proofs.ByRecursion.{All-get_or}
 use Rattle.field.specs.Algebra.{Algebra, Lawful, inverse}
+use Rattle.field.specs.Codes.{AllBelow}
 use Rattle.field.proofs.Codes.{elements, elements_ring}
 use Rattle.field.proofs.Rings.{opp_nil, nil_prod}
 use Rattle.elimination.specs.Vectors.{VectorOver, cleared_by, reduced_by}
@@ -26,7 +27,7 @@ module _ (A : Algebra) (L : Lawful A) where
 
   pub cleared_already :
       (v row : List ℕ) (p : ℕ)
-      → AllByRecursion (λ c. c < A.size) v
+      → AllBelow A.size v
       → VectorOver A (length v) row
       → get_or v p 0 ≡ 0
       → v ≡ cleared_by A (length v) v (p, row)

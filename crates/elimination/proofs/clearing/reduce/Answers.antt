@@ -7,11 +7,11 @@ pub clear-requires : goal.clear-requires
 clear-requires g c =
     let A = g.F.Field.model c.args.f.now in
     let h = all_read (Clears A (length c.args.v.now)) c.args.rows.now c.loop-row.row-index c.row-item.result (omega arith)
-    c.row-item.is c.requires.codes.0 in
+    c.row-item.is c.requires.rows in
     record {
-      field = c.requires.field;
       place = omega (arith, h.0);
-      codes = (simp c.loop-row.auto.v h.1, c.loop-row.invariant.0);
+      row = simp c.loop-row.auto.v h.1;
+      codes = c.loop-row.invariant.0;
     }
 
 pub loop-row-preserved : goal.loop-row-preserved
@@ -21,11 +21,7 @@ loop-row-preserved g c = (
       c.row-item.is c.loop-row.auto.v c.loop-row.invariant.1 c.clear.ensures.value,
 )
 
-pub returns : goal.returns
-returns g c =
-    record {
-      codes = c.loop-row.invariant.0;
-      value =
-          reduced_all (g.F.Field.model c.args.f.now) (length c.args.v.now) c.args.rows.now c.args.v.now
-          c.loop-row.row-index c.loop-row.v (omega arith) c.loop-row.invariant.1;
-    }
+pub returns-clause-value : goal.returns-clause-value
+returns-clause-value g c =
+    reduced_all (g.F.Field.model c.args.f.now) (length c.args.v.now) c.args.rows.now c.args.v.now
+    c.loop-row.row-index c.loop-row.v (omega arith) c.loop-row.invariant.1
