@@ -1,7 +1,7 @@
 // The quadratic extension of any field of at most 65,536 elements, itself a field; so it can be extended once more.
 #![tactic(auto)]
 
-ghost use Rattle.std.specs.Prelude.{Ok, ℕ, ◌≡◌, ◌*◌, ◌<◌, ◌≤◌, MatchOption};
+ghost use Rattle.std.specs.Prelude.{ℕ, ◌≡◌, ◌*◌, ◌<◌, ◌≤◌, MatchOption, ⊤};
 ghost use Rattle.field.specs.Algebra.{ops};
 ghost use Rattle.extension.specs.Extension.{norm, encode, decode, conjugate_product, extension, LeastRoot, Root, Extends};
 ghost use Rattle.extension.proofs.Laws.{extension_lawful};
@@ -22,9 +22,11 @@ pub struct Pair<F: Field> {
 }
 
 impl<F: Field + Copy> Clone for Pair<F> {
-    fn clone(&self) -> Result<Pair<F>, AllocError>
-        ensures { result ≡ Ok self.now }
-    {
+    ghost is_clone = { λ x y. y ≡ x };
+
+    ghost is_infallible = { λ _. ⊤ };
+
+    fn clone(&self) -> Result<Pair<F>, AllocError> {
         Ok(*self)
     }
 }

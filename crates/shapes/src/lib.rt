@@ -3,4 +3,5 @@
 
 mod arithmetic;
 mod making;
+mod reading;
 pub mod shape;
