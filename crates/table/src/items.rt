@@ -52,6 +52,7 @@ impl<T: Copy, const N: usize> Table<T, N> {
     // One item more, where there are fewer than N.
     pub fn push(&mut self, item: T) -> Result<(), Full>
         ensures adds { Adds N (items_of self.old) item result (items_of self.new) }
+        ensures full { OnErr result (self.new ≡ self.old) }
     {
         if self.count == N {
             return Err(Full);
