@@ -1,13 +1,10 @@
-use Rattle.std.proofs.Common.{◌≡◌, [], ◌∷◌, Some, sym, ap, ◌∙◌, subst, ap₂}
+use Rattle.std.proofs.Common.{◌≡◌, [], ◌∷◌, Some, ap, ◌∙◌, ap₂}
 use Rattle.field.specs.Algebra.{Algebra, inverse}
 use Rattle.prime.specs.Residues.{residues}
-use Rattle.extension.specs.Extension.{extension, Extends}
+use Rattle.extension.specs.Extension.{extension}
 use Rattle.worked.specs.Table.{nine}
-use Rattle.worked.proofs.Values.{arithmetic_holds, nine_extends}
+use Rattle.worked.proofs.Values.{arithmetic_holds}
 use Rattle.worked.proofs.worked_arithmetic.Goals as goal
-
-pub new-nine-requires : goal.new-nine-requires
-new-nine-requires c = subst (λ m. Extends (residues m) 0 2) (sym c.new.ensures.value) nine_extends
 
 pub returns : goal.returns
 returns c =

@@ -1,4 +1,4 @@
-use Rattle.std.proofs.Common.{◌≡◌, Some, None, sym, ap, ◌∙◌}
+use Rattle.std.proofs.Common.{Some, None, sym, ap, ◌∙◌}
 use Rattle.field.specs.Algebra.{inverse, ops}
 use Rattle.extension.specs.Extension.{conjugate_product, norm, decode}
 use Rattle.extension.proofs.Laws.{inverse_divided}
