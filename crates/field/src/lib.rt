@@ -5,6 +5,8 @@
 ghost use Rattle.std.specs.Prelude.{◌≡◌, ◌<◌, IfSome};
 ghost use Rattle.field.specs.Algebra.{Algebra, Lawful, inverse, Quotient};
 
+// Every value of a type that implements it is a field. That codes are below the size is asked by each operation: it depends on the
+// field's value, and no type does.
 pub trait Field {
     // The size, and sum, product and negative of codes.
     ghost model: { Self → Algebra };

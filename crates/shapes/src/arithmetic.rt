@@ -1,4 +1,5 @@
-// A shape as a field.
+// A shape as a field. The arms of each operation are alike and stay written out: no macro writes an impl, and an enum of kinds inside
+// one of steps saves five arms and asks for the kind again in every operation on the parts.
 ghost use Rattle.shapes.specs.Shapes.{algebra};
 ghost use Rattle.shapes.specs.Laws.{shape_lawful};
 
