@@ -6,8 +6,8 @@ use Rattle.std.proofs.ByRecursion.{All-map}
 use Rattle.std.proofs.lemmas.Bool.Decides.{Decides-like}
 use Rattle.format.specs.Records.{state_names, symbol_names}
 use Rattle.format.specs.Reading.{Place, Declared, number_of, draft_part}
-use Rattle.lines.specs.declared.line.Side.{Side}
-use Rattle.lines.specs.declared.line.Side.TheVariants.{A, B}
+use Rattle.side.specs.declared.Side.{Side}
+use Rattle.side.specs.declared.Side.TheVariants.{A, B}
 use Rattle.lines.specs.Recognized.{side_of}
 use Rattle.tables.specs.declared.Children.{Children}
 use Rattle.tables.specs.Tables.{states_of, symbols_of}

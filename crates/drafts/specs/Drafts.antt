@@ -4,8 +4,8 @@ use Rattle.equivalence.specs.Automata as automata
 use Rattle.format.specs.Records as records
 use Rattle.format.specs.Reading as reading
 use Rattle.shapes.specs.Shapes.{shape_kind, steps}
-use Rattle.lines.specs.declared.line.Side.{Side}
-use Rattle.lines.specs.declared.line.Side.TheVariants.{A, B}
+use Rattle.side.specs.declared.Side.{Side}
+use Rattle.side.specs.declared.Side.TheVariants.{A, B}
 use Rattle.rules.specs.Rules as rules
 use Rattle.tables.specs.Tables as tables
 use Rattle.tables.specs.Tables.{symbols_of, Counts}

@@ -5,7 +5,6 @@ use report::report;
 use std::alloc::{AllocError, Global};
 use std::fmt;
 use text::Record;
-use words::same;
 
 // A fault by its number and line, or none.
 #[derive(Clone, Copy)]
@@ -51,7 +50,7 @@ fn run(
     let printed = report(rt.alloc(), text)?;
     let expected = page(rt.alloc(), text, fault)?;
     println!(rt; "text, {what}: expected {wanted}, got {came}")?;
-    tally.note(came.0 == fault && same(&printed, &expected));
+    tally.note(came.0 == fault && printed.as_slice() == expected.as_slice());
     Ok(())
 }
 

@@ -1,12 +1,12 @@
 -- Names: byte by byte, and as records.
-use Rattle.std.proofs.Common.{◌≡◌, ℕ, ◌-◌, ◌<◌, ◌≤◌, true, false, List, [], ◌∷◌, ◌++◌, length, get_or, take, drop, replicate, Decides, sym, refl, ap, ◌∙◌, subst, inl, inr, arith, length-append, length-drop, take-append-drop}
+use Rattle.std.proofs.Common.{◌≡◌, ℕ, ◌-◌, ◌<◌, ◌≤◌, true, false, List, [], ◌∷◌, ◌++◌, length, get_or, take, drop, replicate, Decides, sym, refl, ap, ◌∙◌, subst, arith, length-append, length-drop, take-append-drop}
 use denote.Struct.Props.{props}
 use mathlib.Core.HLevel.{is_prop→PathP}
-use Rattle.std.specs.List.{list_all, AllByRecursion}
+use Rattle.std.specs.List.{list_all, AllByRecursion, AllWithin}
 use Rattle.std.proofs.ByRecursion.{All-get_or, All-from_get_or, Decides-by_and}
-use Rattle.std.proofs.lemmas.Bool.{and_parts, and_from, or_left, leb-true, le-leb, both_ways, cases_Bool}
+use Rattle.std.proofs.lemmas.Bool.{and_parts, and_from, or_left, leb-true, le-leb, both_ways}
 use Rattle.std.proofs.lemmas.List.{length-take-le, take_at, drop_at, drop-replicate}
-use Rattle.std.proofs.lemmas.Bool.Decides.{same_from_decides}
+use Rattle.std.specs.Prelude.{nat_le}
 use Rattle.words.proofs.Lines.{Field}
 use Rattle.words.specs.declared.name.Name.{Name}
 use Rattle.words.specs.Spelled.{spelled}
@@ -46,15 +46,11 @@ pub name_lacks : (b : ℕ) → inner b ≡ false → (bs : List ℕ) → is_name
 name_lacks b out bs h =
     All-from_get_or _ bs 0 (λ i less e. both_ways (inner b) out (subst (λ x. inner x ≡ true) e ((named bs h).rest i less)))
 
-pub name_is : (bs : List ℕ) → 1 ≤ length bs → length bs ≤ 8 → ((i : ℕ) → i < length bs → inner (get_or bs i 0) ≡ true) → small (get_or bs 0 0) ≡ is_name bs
-name_is bs some short rest =
-    same_from_decides (small (get_or bs 0 0)) (is_name bs)
-    (λ f. name_from bs (record { some = some; short = short; first = f; rest = rest }), λ h. (named bs h).first)
-    (λ h. h, λ h. h)
-
-pub not_name : (bs : List ℕ) (i : ℕ) → i < length bs → inner (get_or bs i 0) ≡ false → false ≡ is_name bs
-not_name bs i less out =
-    elim (cases_Bool (is_name bs)) [ inl h ↦ absurd (both_ways _ out ((named bs h).rest i less)) | inr h ↦ sym h ]
+-- a small letter, and the bytes after it where each may stand in a name
+pub name_is : (part rest : List ℕ) (b : ℕ) → part ≡ b ∷ rest → small b ≡ true → AllWithin (λ x. inner x ≡ true) rest 0 (length rest) → nat_le (length rest) 7 ≡ is_name part
+name_is part rest b e first h =
+    let all = (all_inner rest).1 (All-from_get_or (λ x. inner x ≡ true) rest 0 (λ k less. h k 0 (omega arith) less)) in
+    rw (e, first, all)
 
 -- bs copied over the front of eight places, where a name keeps it
 module _ (copy bs under : List ℕ) (same : copy ≡ bs) (name : is_name bs ≡ true) where

@@ -14,8 +14,8 @@ use Rattle.rules.specs.declared.tables.Rule.{Rule}
 use Rattle.drafts.specs.Drafts.{part_of, side_part}
 use Rattle.drafts.specs.declared.Draft.{Draft}
 use Rattle.lines.specs.Recognized.{side_of}
-use Rattle.lines.specs.declared.line.Side.{Side}
-use Rattle.lines.specs.declared.line.Side.TheVariants.{A, B}
+use Rattle.side.specs.declared.Side.{Side}
+use Rattle.side.specs.declared.Side.TheVariants.{A, B}
 use Rattle.line_writer.specs.Writing.{ended, rule_by}
 use Rattle.writer.specs.Blocks.{field_block, rule_block, state_block, symbol_block}
 use Rattle.writer.specs.Declared.{Holds}
