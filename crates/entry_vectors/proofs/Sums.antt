@@ -1,5 +1,5 @@
 -- The sums over the rules that lead to a state, gathered rule by rule from the last.
-use Rattle.std.proofs.Common.{◌≡◌, ℕ, zero, suc, ◌-◌, ◌<◌, ◌≤◌, Bool, true, false, cond, ◌&&◌, eqb, ◌≢◌, List, [], ◌∷◌, map, length, get_or, take, drop, set, replicate, sym, refl, ap, ◌∙◌, ap₂, inl, inr, arith, length-set}
+use Rattle.std.proofs.Common.{◌≡◌, ℕ, zero, suc, ◌-◌, ◌<◌, ◌≤◌, Bool, true, false, cond, ◌&&◌, eqb, ◌≢◌, List, [], ◌∷◌, map, length, get_or, take, set, replicate, sym, refl, ap, ◌∙◌, inl, inr, arith, length-set}
 use lib.ListN.{length-map, get_or-replicate}
 use Rattle.std.proofs.lemmas.List.{ext_get_or, get_or-map, get_or-set_other, get_or-set_same, get_or-take, length-take-le, set_past}
 use Rattle.std.proofs.lemmas.Bool.Decides.{eqb_tells}
@@ -9,8 +9,10 @@ use Rattle.equivalence.specs.Entries.{Entry}
 use Rattle.equivalence.specs.Valuing.{through, entry_vector}
 use Rattle.equivalence.proofs.Lists.{getD_numbers}
 use Rattle.equivalence.proofs.Members.{length_numbers}
+use Rattle.std.specs.Prelude.{reverse}
+use Rattle.std.specs.List.{fold}
 use Rattle.entry_vectors.specs.Combining.{added, led}
-use Rattle.entry_vectors.proofs.Lists.{drop_less, image_at}
+use Rattle.entry_vectors.proofs.Backwards.{fold_back}
 
 module _ (o : Ops ℕ) where
   pub length_added : (t x : ℕ) (v : List ℕ) → length (added o t x v) ≡ length v
@@ -101,28 +103,14 @@ module _ (o : Ops ℕ) where
         ∙ sym (get_or-map sums (numbers n) i 0 o.nil (omega arith)
         ∙ ap sums (ap (λ j. get_or (numbers n) j 0) (sym one) ∙ getD_numbers n (suc i) 0 (omega arith) (omega arith))))
 
-    -- a rule more, of those that the list's elements stand for
-    pub gathered_more :
-        {X : Type 0} (f : X → Rule ℕ) (xs : List X) (i : ℕ) (x : X) (old new : List ℕ)
-        → 1 ≤ i → i ≤ length xs → x ≡ get_or xs (i - 1) x
-        → old ≡ gathered (drop i (map f xs))
-        → new ≡ led o vs e (f x) old
-        → new ≡ gathered (drop (i - 1) (map f xs))
-    gathered_more f xs i x old new some in' is was is_led =
-        let l = length-map xs f in
-        let at = image_at f xs (i - 1) x (omega arith) is in
-        let less = drop_less (map f xs) i (f x) some (omega arith) in
-        is_led
-        ∙ ap (led o vs e (f x)) was
-        ∙ ap (λ r. led o vs e r (gathered (drop i (map f xs)))) (sym at)
-        ∙ ap gathered (sym less)
-
-    -- the vector after the rules of an automaton, all of them
-    pub gathered_all :
-        {X : Type 0} (f : X → Rule ℕ) (xs : List X) (i : ℕ) (v : List ℕ) (M : Automaton ℕ)
-        → states M ≤ 12 → i ≡ 0
+    -- gathered from the last rule to the first, of the rules of an automaton
+    pub gathered_back :
+        {X : Type 0} (f : X → Rule ℕ) (xs ys : List X) (M : Automaton ℕ)
+        → states M ≤ 12
         → map f xs ≡ M.rules
-        → v ≡ gathered (drop i (map f xs))
-        → take (states M) v ≡ entry_vector o M vs e
-    gathered_all f xs i v M few end holds is =
-        ap (take (states M)) (is ∙ ap₂ (λ n rs. gathered (drop n rs)) end holds) ∙ gathered_vector M few
+        → ys ≡ reverse xs
+        → take (states M) (fold (λ v x. led o vs e (f x) v) (replicate 12 o.nil) ys) ≡ entry_vector o M vs e
+    gathered_back f xs ys M few holds are =
+        ap (λ zs. take (states M) (fold (λ v x. led o vs e (f x) v) (replicate 12 o.nil) zs)) are
+        ∙ ap (take (states M)) (fold_back (λ x v. led o vs e (f x) v) (λ zs. gathered (map f zs)) (λ x zs. refl) xs ∙ ap gathered holds)
+        ∙ gathered_vector M few
