@@ -65,13 +65,12 @@ pub read-le : (n : ℕ) (bs : List ℕ) → n ≤ read n bs
 read-le n [] = omega arith
 read-le n (b ∷ bs) = omega (arith, read-le (n * 10 + (b - 48)) bs)
 
--- a decimal is the digits before the last one, at most nine, and the last one
+-- a decimal is the digits before the last one, and the last one
 pub last_only : (n : ℕ) → n < 10 → decimal n ≡ (48 + n % 10) ∷ []
 last_only n less = decimal_digit n less ∙ ap (λ d. (48 + d) ∷ []) (omega arith)
 
-pub last_after : (n : ℕ) → 10 ≤ n → n < 2 ^ 32 → (decimal n ≡ decimal (n / 10) ++ ((48 + n % 10) ∷ [])) × (length (decimal (n / 10)) ≤ 9)
-last_after n more small =
-    (decimal_step n more (omega arith), length-decimal-le 9 (n / 10) (omega arith) (omega arith) (omega arith))
+pub last_after : (n : ℕ) → 10 ≤ n → n < 2 ^ 32 → decimal n ≡ decimal (n / 10) ++ ((48 + n % 10) ∷ [])
+last_after n more small = decimal_step n more (omega arith)
 
 pub decimal_field : (n : ℕ) → n < 2 ^ 32 → Field (decimal n)
 decimal_field n small = (decimal_some_32 n small, decimal_lacks n small 32 (omega arith))

@@ -5,11 +5,12 @@ ghost use Rattle.std.specs.Prelude.{◌≡◌, ℕ, MatchOption};
 ghost use Rattle.words.specs.Words.{Cut, Lacks, Number};
 
 mod name;
-mod put;
+mod pen;
 mod spelling;
+mod writing;
 
 pub use name::Name;
-pub use put::{put_byte, put_bytes, put_number};
+pub use pen::Pen;
 pub use spelling::is_name;
 
 // The bytes before the first `stop`, and those after it.

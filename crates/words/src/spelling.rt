@@ -1,11 +1,9 @@
-// Reading, comparing and writing names.
+// Reading and comparing names.
 ghost use Rattle.std.specs.Prelude.{◌≡◌, ◌+◌, ◌^◌, ◌<◌, ◌≤◌, false, [], ◌∷◌, length, Decides, MatchOption};
-ghost use Rattle.words.specs.Puts.{overlaid};
 ghost use Rattle.words.specs.Spelled.{spelled};
 ghost use Rattle.words.specs.Words.{inner, is_name};
 
 use crate::name::Name;
-use crate::put::put_bytes;
 
 // Whether the byte may stand in a name after the first.
 fn is_inner(b: u8) -> bool
@@ -64,15 +62,5 @@ impl Name {
         ensures { Decides result (spelled self.now ≡ part.now) }
     {
         self.spelling() == part
-    }
-
-    // Writes the name, as `put_bytes` does.
-    pub fn put(&self, out: &mut [u8], at: usize) -> usize
-        requires { at + 8 < 2 ^ 64 }
-        ensures next { result ≡ at + length (spelled self.now) }
-        ensures near { result ≤ at + 8 }
-        ensures put { out.new ≡ overlaid out.old at (spelled self.now) }
-    {
-        put_bytes(out, at, self.spelling())
     }
 }

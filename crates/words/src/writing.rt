@@ -1,0 +1,61 @@
+// What a pen writes.
+ghost use Rattle.std.specs.Prelude.{◌≡◌, [], ◌∷◌, decimal};
+ghost use Rattle.words.specs.Puts.{Writes};
+ghost use Rattle.words.specs.Spelled.{spelled};
+
+use crate::name::Name;
+use crate::pen::Pen;
+
+impl<'a> Pen<'a> {
+    // A pen at the start of the buffer.
+    pub fn new(out: &'a mut [u8]) -> Pen<'a>
+        ensures same_buffer { result.out.ghost_name ≡ out.entry.ghost_name }
+        ensures holds { result.out.now ≡ out.old }
+        ensures start { result.at ≡ 0 }
+    {
+        Pen { out, at: 0 }
+    }
+
+    // The place that comes next.
+    pub fn place(&self) -> usize
+        ensures { result ≡ self.now.at }
+    {
+        self.at
+    }
+
+    // Writes a byte.
+    pub fn byte(&mut self, b: u8)
+        ensures { Writes self.old (b ∷ []) self.new }
+    {
+        if self.at < self.out.len() {
+            self.out[self.at] = b;
+        }
+        self.at = self.at.saturating_add(1);
+    }
+
+    // Writes the bytes.
+    pub fn bytes(&mut self, bytes: &[u8])
+        ensures { Writes self.old bytes.now self.new }
+    {
+        for b in bytes {
+            self.byte(*b);
+        }
+    }
+
+    // Writes `n` in decimal.
+    pub fn number(&mut self, n: u32)
+        ensures { Writes self.old (decimal n) self.new }
+    {
+        if n >= 10 {
+            self.number(n / 10);
+        }
+        self.byte(b'0' + (n % 10) as u8);
+    }
+
+    // Writes the name.
+    pub fn name(&mut self, name: &Name)
+        ensures { Writes self.old (spelled name.now) self.new }
+    {
+        self.bytes(name.spelling());
+    }
+}
