@@ -8,7 +8,7 @@ use Rattle.field.specs.Ops.{Ops}
 use Rattle.field.proofs.Codes.{elements, elements_ring}
 use Rattle.field.proofs.Rings.{nil_prod}
 use Rattle.equivalence.specs.Valuing.{through}
-use Rattle.entry_vectors.specs.Combining.{named}
+use Rattle.entry_vectors.specs.Combining.{Among, named}
 use Rattle.entry_vectors.proofs.Backwards.{fold_back, zip_reverse}
 
 -- the numbers up to the first that is 0
@@ -21,7 +21,7 @@ named_take (suc c ∷ cs) zero some end = absurd (omega (arith, end))
 named_take (suc c ∷ cs) (suc n) some end = ap (λ ds. suc c ∷ ds) (named_take cs n (λ i h. some (suc i) (omega arith)) end)
 
 -- they are numbers from 1 on, as large as before
-pub all_named : (m : ℕ) (cs : List ℕ) → AllByRecursion (λ c. c ≤ m) cs → AllByRecursion (λ c. (1 ≤ c) × (c ≤ m)) (named cs)
+pub all_named : (m : ℕ) (cs : List ℕ) → AllByRecursion (λ c. c ≤ m) cs → Among m (named cs)
 all_named m [] h = tt
 all_named m (zero ∷ cs) h = tt
 all_named m (suc c ∷ cs) h = ((omega arith, h.0), all_named m cs h.1)
@@ -46,28 +46,34 @@ module _ (o : Ops ℕ) (vs : List (List ℕ)) where
   factors [] = o.unit
   factors (p ∷ ps) = o.prod (factor p) (factors ps)
 
-  pub through_pairs : (cs ss : List ℕ) → length (named cs) ≡ length ss → through o vs cs ss ≡ factors (zip (named cs) ss)
-  through_pairs [] [] e = refl
-  through_pairs [] (s ∷ ss) e = absurd (omega arith)
-  through_pairs (zero ∷ cs) [] e = refl
-  through_pairs (zero ∷ cs) (s ∷ ss) e = absurd (omega arith)
-  through_pairs (suc c ∷ cs) [] e = absurd (omega arith)
-  through_pairs (suc c ∷ cs) (s ∷ ss) e =
+  -- the children up to the first 0 are all that count
+  pub through_named : (cs ss : List ℕ) → through o vs (named cs) ss ≡ through o vs cs ss
+  through_named [] ss = refl
+  through_named (zero ∷ cs) [] = refl
+  through_named (zero ∷ cs) (s ∷ ss) = refl
+  through_named (suc c ∷ cs) [] = refl
+  through_named (suc c ∷ cs) (s ∷ ss) = ap (o.prod (get_or (get_or vs c []) (s - 1) o.nil)) (through_named cs ss)
+
+  through_pairs : (m : ℕ) (cs ss : List ℕ) → Among m cs → length cs ≡ length ss → through o vs cs ss ≡ factors (zip cs ss)
+  through_pairs m [] [] h e = refl
+  through_pairs m [] (s ∷ ss) h e = absurd (omega arith)
+  through_pairs m (c ∷ cs) [] h e = absurd (omega arith)
+  through_pairs m (zero ∷ cs) (s ∷ ss) h e = absurd (omega (arith, h.0.0))
+  through_pairs m (suc c ∷ cs) (s ∷ ss) h e =
       let at : suc c - 1 ≡ c = omega arith in
-      ap₂ (λ d. o.prod (get_or (get_or vs d []) (s - 1) o.nil)) (sym at) (through_pairs cs ss (omega arith))
+      ap₂ (λ d. o.prod (get_or (get_or vs d []) (s - 1) o.nil)) (sym at) (through_pairs m cs ss h.1 (omega arith))
 
   -- gathered from the last pair to the first
   pub through_gathered :
-      (cs ns ss : List ℕ) (ps : List (ℕ × ℕ))
-      → ns ≡ named cs
-      → length ns ≡ length ss
-      → ps ≡ zip (reverse ns) (reverse ss)
+      (m : ℕ) (cs ss : List ℕ) (ps : List (ℕ × ℕ))
+      → Among m cs
+      → length cs ≡ length ss
+      → ps ≡ zip (reverse cs) (reverse ss)
       → fold (λ y p. o.prod (factor p) y) o.unit ps ≡ through o vs cs ss
-  through_gathered cs ns ss ps are e pairs =
-      ap (fold (λ y p. o.prod (factor p) y) o.unit) (pairs ∙ zip_reverse ns ss e)
-      ∙ fold_back (λ p y. o.prod (factor p) y) factors (λ p qs. refl) (zip ns ss)
-      ∙ ap (λ ms. factors (zip ms ss)) are
-      ∙ sym (through_pairs cs ss (sym (ap length are) ∙ e))
+  through_gathered m cs ss ps among e pairs =
+      ap (fold (λ y p. o.prod (factor p) y) o.unit) (pairs ∙ zip_reverse cs ss e)
+      ∙ fold_back (λ p y. o.prod (factor p) y) factors (λ p qs. refl) (zip cs ss)
+      ∙ sym (through_pairs m cs ss among e)
 
 -- where there are not as many states as children it is zero
 module _ (A : Algebra) (L : Lawful A) (vs : List (List ℕ)) (codes : Codes A.size vs) where
@@ -76,13 +82,12 @@ module _ (A : Algebra) (L : Lawful A) (vs : List (List ℕ)) (codes : Codes A.si
       let R = elements_ring A L in
       ap (λ y. y.0) (R.prod_comm (x, b) (elements A L).nil ∙ nil_prod R (x, b))
 
-  pub through_apart : (cs ss : List ℕ) → length (named cs) ≢ length ss → through (ops A) vs cs ss ≡ 0
-  through_apart [] [] ne = absurd (ne refl)
-  through_apart [] (s ∷ ss) ne = refl
-  through_apart (zero ∷ cs) [] ne = absurd (ne refl)
-  through_apart (zero ∷ cs) (s ∷ ss) ne = refl
-  through_apart (suc c ∷ cs) [] ne = refl
-  through_apart (suc c ∷ cs) (s ∷ ss) ne =
+  pub through_apart : (m : ℕ) (cs ss : List ℕ) → Among m cs → length cs ≢ length ss → through (ops A) vs cs ss ≡ 0
+  through_apart m [] [] h ne = absurd (ne refl)
+  through_apart m [] (s ∷ ss) h ne = refl
+  through_apart m (zero ∷ cs) ss h ne = absurd (omega (arith, h.0.0))
+  through_apart m (suc c ∷ cs) [] h ne = refl
+  through_apart m (suc c ∷ cs) (s ∷ ss) h ne =
       let two = L.least in
-      ap (A.prod (get_or (get_or vs c []) (s - 1) 0)) (through_apart cs ss (λ e. ne (ap suc e)))
+      ap (A.prod (get_or (get_or vs c []) (s - 1) 0)) (through_apart m cs ss h.1 (λ e. ne (ap suc e)))
       ∙ times_zero _ (element_below A.size vs c (s - 1) (omega arith) codes)

@@ -1,7 +1,8 @@
 -- The sums over the rules that lead to a state, gathered rule by rule from the last.
-use Rattle.std.proofs.Common.{◌≡◌, ℕ, zero, suc, ◌-◌, ◌<◌, ◌≤◌, Bool, true, false, cond, ◌&&◌, eqb, ◌≢◌, List, [], ◌∷◌, map, length, get_or, take, set, replicate, sym, refl, ap, ◌∙◌, inl, inr, arith, length-set}
+use Rattle.std.proofs.Common.{◌≡◌, ℕ, zero, suc, ◌-◌, ◌<◌, ◌≤◌, Bool, true, false, cond, ◌&&◌, eqb, ◌≢◌, List, [], ◌∷◌, ◌++◌, map, length, get_or, take, set, replicate, sym, refl, ap, ◌∙◌, inl, inr, arith, length-set}
 use lib.ListN.{length-map, get_or-replicate}
-use Rattle.std.proofs.lemmas.List.{ext_get_or, get_or-map, get_or-set_other, get_or-set_same, get_or-take, length-take-le, set_past}
+use Rattle.std.proofs.lemmas.List.Sums.{fold_push}
+use Rattle.std.proofs.lemmas.List.{ext_get_or, map_push, get_or-map, get_or-set_other, get_or-set_same, get_or-take, length-take-le, set_past}
 use Rattle.std.proofs.lemmas.Bool.Decides.{eqb_tells}
 use Rattle.field.specs.Ops.{Ops, total}
 use Rattle.equivalence.specs.Automata.{Rule, Automaton, states, numbers, leading}
@@ -11,7 +12,7 @@ use Rattle.equivalence.proofs.Lists.{getD_numbers}
 use Rattle.equivalence.proofs.Members.{length_numbers}
 use Rattle.std.specs.Prelude.{reverse}
 use Rattle.std.specs.List.{fold}
-use Rattle.entry_vectors.specs.Combining.{added, led}
+use Rattle.entry_vectors.specs.Combining.{added}
 use Rattle.entry_vectors.proofs.Backwards.{fold_back}
 
 module _ (o : Ops ℕ) where
@@ -64,13 +65,17 @@ module _ (o : Ops ℕ) where
   length_cond false v w n h k = k
 
   module _ (vs : List (List ℕ)) (e : Entry) where
+    -- the vector of an entry after one rule more: of the entry's symbol, it adds its weight times the product through the children
+    abbrev pub led : Rule ℕ → List ℕ → List ℕ
+    led r vector = cond (eqb r.symbol e.symbol) (added o r.target (o.prod r.weight (through o vs e.children r.children)) vector) vector
+
     abbrev term : Rule ℕ → ℕ
     term r = o.prod r.weight (through o vs e.children r.children)
 
     -- the vector after these rules
     abbrev pub gathered : List (Rule ℕ) → List ℕ
     gathered [] = replicate 12 o.nil
-    gathered (r ∷ rs) = led o vs e r (gathered rs)
+    gathered (r ∷ rs) = led r (gathered rs)
 
     pub length_gathered : (rs : List (Rule ℕ)) → length (gathered rs) ≡ 12
     length_gathered [] = refl
@@ -103,14 +108,38 @@ module _ (o : Ops ℕ) where
         ∙ sym (get_or-map sums (numbers n) i 0 o.nil (omega arith)
         ∙ ap sums (ap (λ j. get_or (numbers n) j 0) (sym one) ∙ getD_numbers n (suc i) 0 (omega arith) (omega arith))))
 
+    -- what a rule of the entry's symbol adds
+    pub led_is :
+        (r : Rule ℕ) (v w : List ℕ) (p x : ℕ)
+        → r.symbol ≡ e.symbol
+        → p ≡ through o vs e.children r.children
+        → x ≡ o.prod r.weight p
+        → w ≡ added o r.target x v
+        → w ≡ led r v
+    led_is r v w p x same through_is times plus =
+        elim (eqb_tells r.symbol e.symbol) [
+          | inl t ↦ rw t.0 (plus ∙ ap (λ y. added o r.target y v) (times ∙ ap (o.prod r.weight) through_is))
+          | inr t ↦ absurd (t.1 same)
+        ]
+
+    pub led_more :
+        {X Y : Type 0} (f : Y → Rule ℕ) (now : X → Y) (xs : List X) (x : X) (first v w : List ℕ)
+        → v ≡ fold (λ u y. led (f y) u) first (map now xs)
+        → w ≡ led (f (now x)) v
+        → w ≡ fold (λ u y. led (f y) u) first (map now (xs ++ (x ∷ [])))
+    led_more f now xs x first v w was is =
+        is
+        ∙ ap (led (f (now x))) was
+        ∙ sym (ap (fold (λ u y. led (f y) u) first) (map_push now xs x) ∙ fold_push (λ u y. led (f y) u) first (map now xs) (now x))
+
     -- gathered from the last rule to the first, of the rules of an automaton
     pub gathered_back :
         {X : Type 0} (f : X → Rule ℕ) (xs ys : List X) (M : Automaton ℕ)
         → states M ≤ 12
         → map f xs ≡ M.rules
         → ys ≡ reverse xs
-        → take (states M) (fold (λ v x. led o vs e (f x) v) (replicate 12 o.nil) ys) ≡ entry_vector o M vs e
+        → take (states M) (fold (λ v x. led (f x) v) (replicate 12 o.nil) ys) ≡ entry_vector o M vs e
     gathered_back f xs ys M few holds are =
-        ap (λ zs. take (states M) (fold (λ v x. led o vs e (f x) v) (replicate 12 o.nil) zs)) are
-        ∙ ap (take (states M)) (fold_back (λ x v. led o vs e (f x) v) (λ zs. gathered (map f zs)) (λ x zs. refl) xs ∙ ap gathered holds)
+        ap (λ zs. take (states M) (fold (λ v x. led (f x) v) (replicate 12 o.nil) zs)) are
+        ∙ ap (take (states M)) (fold_back (λ x v. led (f x) v) (λ zs. gathered (map f zs)) (λ x zs. refl) xs ∙ ap gathered holds)
         ∙ gathered_vector M few

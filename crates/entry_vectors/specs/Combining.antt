@@ -1,16 +1,14 @@
 -- What it takes to combine vectors, and the steps of it.
-use Rattle.std.specs.Prelude.{ℕ, zero, suc, ◌≤◌, cond, List, [], ◌∷◌, length, ◌==◌, slice_index_or, slice_set}
+use Rattle.std.specs.Prelude.{ℕ, zero, suc, ◌≤◌, List, [], ◌∷◌, length, slice_index_or, slice_set}
 use Rattle.std.specs.List.{AllByRecursion}
 use Rattle.field.specs.Ops.{Ops}
-use Rattle.equivalence.specs.Automata.{Rule}
 use Rattle.equivalence.specs.Entries.{Entry}
-use Rattle.equivalence.specs.Valuing.{through}
 
 -- the child numbers of an entry are 0 or name one of the vectors
 abbrev pub Earlier : List (List ℕ) → Entry → Type 0
 Earlier vs e = AllByRecursion (λ c. c ≤ length vs) e.children
 
--- states are numbered from 1 to n
+-- the numbers are among those from 1 to n
 abbrev pub Among : ℕ → List ℕ → Type 0
 Among n ss = AllByRecursion (λ s. (1 ≤ s) × (s ≤ n)) ss
 
@@ -24,8 +22,3 @@ named (suc c ∷ cs) = suc c ∷ named cs
 abbrev pub added : Ops ℕ → ℕ → ℕ → List ℕ → List ℕ
 added o zero x vector = vector
 added o (suc at) x vector = slice_set vector at (o.sum x (slice_index_or vector at o.nil))
-
--- the vector of an entry after one rule more: of the entry's symbol, it adds its weight times the product through the children
-abbrev pub led : Ops ℕ → List (List ℕ) → Entry → Rule ℕ → List ℕ → List ℕ
-led o vs e r vector =
-    cond (r.symbol == e.symbol) (added o r.target (o.prod r.weight (through o vs e.children r.children)) vector) vector

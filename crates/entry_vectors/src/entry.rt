@@ -1,18 +1,17 @@
 // The vector of an entry, from those of the entries before it.
 ghost use Rattle.std.specs.Prelude.{◌≡◌, ◌<◌, [], ◌∷◌, ◌++◌, length, take};
 ghost use Rattle.automaton.specs.Tables.{automaton_of, entry_of};
-ghost use Rattle.equivalence.specs.Automata.{Sound, SoundRule, states as many};
+ghost use Rattle.equivalence.specs.Automata.{Sound, states as many};
 ghost use Rattle.equivalence.specs.Valuing.{entry_vector};
 ghost use Rattle.field.specs.Algebra.{ops};
 ghost use Rattle.field.specs.Codes.{AllBelow};
-ghost use Rattle.rules.specs.Rules.{rule_model};
 ghost use Rattle.vectors.specs.Tables.{vectors_of};
-ghost use Rattle.entry_vectors.specs.Combining.{Earlier, added, led};
+ghost use Rattle.entry_vectors.specs.Combining.{Earlier, added};
 
 use crate::Valuation;
+use crate::product::children;
 use automaton::{Automaton, Entry};
 use field::Field;
-use rules::Rule;
 use vectors::Vectors;
 
 // Adds to the element of a state, if the vector has one.
@@ -63,25 +62,15 @@ impl<'a, F: Field> Valuation<'a, F> {
         ensures below { AllBelow (F.Field.model self.now.field.now).size result }
         ensures places { length result ≡ 12 }
     {
+        let children = children(e);
         let mut vector = [0; 12];
         for rule in self.automaton.rules().iter().rev() {
-            self.lead(e, rule, &mut vector);
+            if rule.symbol == e.symbol {
+                let product = self.through(children, rule.children.items());
+                let x = self.field.mul(rule.weight, product);
+                add_at(self.field, &mut vector, rule.target, x);
+            }
         }
         vector
-    }
-
-    // Adds what a rule of the entry's symbol gives, to the element of the state that it leads to.
-    fn lead(&self, e: &Entry, rule: &Rule, vector: &mut [u32])
-        requires earlier { Earlier (vectors_of self.now.vectors) (entry_of e.now) }
-        requires rule { SoundRule (F.Field.model self.now.field.now).size (many (automaton_of self.now.automaton.now)) (rule_model rule.now) }
-        requires codes { AllBelow (F.Field.model self.now.field.now).size vector.old }
-        ensures value { vector.new ≡ led (ops (F.Field.model self.now.field.now)) (vectors_of self.now.vectors) (entry_of e.now) (rule_model rule.now) vector.old }
-        ensures below { AllBelow (F.Field.model self.now.field.now).size vector.new }
-    {
-        if rule.symbol == e.symbol {
-            let product = self.through(e, rule.children.items());
-            let x = self.field.mul(rule.weight, product);
-            add_at(self.field, vector, rule.target, x);
-        }
     }
 }

@@ -7,6 +7,8 @@ use Rattle.weighing.proofs.weigh.Given as goal
 
 abbrev pub invariant-loop-e : goal.invariant-loop-e
 invariant-loop-e g l =
-    (vectors_of l.valuation.vectors ≡ valuing.vectors_of (ops (g.F.Field.model l.f)) (automaton_of l.m) (map entry_of (take l.e-index l.entries)))
-    × (l.valuation.field.now ≡ l.f)
-    × (l.valuation.automaton.now ≡ l.m)
+    record {
+      vectors : vectors_of l.valuation.vectors ≡ valuing.vectors_of (ops (g.F.Field.model l.f)) (automaton_of l.m) (map entry_of (take l.e-index l.entries));
+      field : l.valuation.field.now ≡ l.f;
+      automaton : l.valuation.automaton.now ≡ l.m;
+    }

@@ -37,7 +37,7 @@ returns-clause-value g c =
     let last = c.in-Some.ensures.is.1 ∙ sym (last_at [] [] vs (omega (arith, c.in-Some.ensures.is.0))) in
     let end = YieldsList-end (YieldsList-from_zip (YieldsList-from_rev_slice ws cc) (YieldsList-from_rev_slice xs cc))
     c.loop-weight.yielded _ c.loop-weight.yielded_by _ c.next.new.self c.in-None.is c.next.ensures.steps in
-    c.loop-weight.invariant.0
+    c.loop-weight.invariant.terms
     ∙ dot_gathered o ws xs _ (omega (arith, finals, c.in-Some.ensures.wide, v.wide)) end.0
     ∙ ap (λ ys. dot o ys xs) c.finals.ensures.are
     ∙ ap (dot o (automaton_of v.automaton.now).finals) last
