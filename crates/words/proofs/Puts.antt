@@ -1,10 +1,10 @@
 -- How writes follow one another.
-use Rattle.std.proofs.Common.{◌≡◌, ℕ, suc, ◌+◌, ◌-◌, ◌≤◌, ◌<◌, ◌^◌, List, [], ◌∷◌, ◌++◌, length, get_or, take, drop, set, sym, refl, ap, ◌∙◌, subst, inl, inr, add-zero, add-suc, suc-add, zero-add, arith, length-append}
+use Rattle.std.proofs.Common.{◌≡◌, ℕ, suc, ◌+◌, ◌-◌, ◌≤◌, ◌<◌, ◌^◌, List, [], ◌∷◌, ◌++◌, map, length, get_or, take, drop, set, sym, refl, ap, ◌∙◌, subst, inl, inr, add-zero, add-suc, suc-add, zero-add, arith, length-append}
 use Rattle.std.specs.Prelude.{min}
 use Rattle.std.specs.List.{flat_map}
 use lib.Seq.{sets, length-sets, sets-eq}
 use Rattle.std.proofs.lemmas.Bool.{cases_lt}
-use Rattle.std.proofs.lemmas.List.{take_at, drop_at, set_past, take_all, take_more, flat_map_more}
+use Rattle.std.proofs.lemmas.List.{take_at, drop_at, set_past, take_all, take_more, flat_map_more, map_push}
 use Rattle.words.specs.Puts.{Writes, overlaid}
 use Rattle.words.specs.declared.pen.Pen.{Pen}
 
@@ -53,13 +53,13 @@ pub bytes_are : {a b : Pen} {xs ys : List ℕ} → xs ≡ ys → Writes a xs b �
 bytes_are {a} {b} e p = subst (λ bs. Writes a bs b) e p
 
 -- the items of a list one by one, each with its bytes
-module _ {X : Type 0} (f : X → List ℕ) where
-  pub next_item : (xs : List X) (i : ℕ) (d : X) {x : X} → i < length xs → x ≡ get_or xs i d → {a b c : Pen} → Writes a (flat_map f (take i xs)) b → Writes b (f x) c → Writes a (flat_map f (take (i + 1) xs)) c
+module _ {X Y : Type 0} (f : Y → List ℕ) (g : X → Y) where
+  pub next_item : (xs : List X) (i : ℕ) (d : X) {x : X} → i < length xs → x ≡ get_or xs i d → {a b c : Pen} → Writes a (flat_map f (map g (take i xs))) b → Writes b (f (g x)) c → Writes a (flat_map f (map g (take (i + 1) xs))) c
   next_item xs i d {x} l e p q =
-      bytes_are (flat_map_more f [] (take i xs) x ∙ ap (flat_map f) (ap (λ y. take i xs ++ (y ∷ [])) e ∙ sym (take_more xs i d l))) (p then q)
+      bytes_are (flat_map_more f [] (map g (take i xs)) (g x) ∙ ap (flat_map f) (sym (map_push g (take i xs) x) ∙ ap (map g) (ap (λ y. take i xs ++ (y ∷ [])) e ∙ sym (take_more xs i d l)))) (p then q)
 
-  pub all_items : (xs : List X) (i : ℕ) → length xs ≤ i → {a b : Pen} → Writes a (flat_map f (take i xs)) b → Writes a (flat_map f xs) b
-  all_items xs i l p = bytes_are (ap (flat_map f) (take_all i xs l)) p
+  pub all_items : (xs : List X) (i : ℕ) → length xs ≤ i → {a b : Pen} → Writes a (flat_map f (map g (take i xs))) b → Writes a (flat_map f (map g xs)) b
+  all_items xs i l p = bytes_are (ap (λ ys. flat_map f (map g ys)) (take_all i xs l)) p
 
 -- bytes one by one
 pub next_byte : (bs : List ℕ) (i : ℕ) → i < length bs → {a b c : Pen} → Writes a (take i bs) b → Writes b (get_or bs i 0 ∷ []) c → Writes a (take (i + 1) bs) c
