@@ -1,1 +1,3 @@
+pub mod Automata
+pub mod Lending
 pub mod Sides
