@@ -1,5 +1,5 @@
 -- What the tables declare.
-use Rattle.std.specs.Prelude.{ℕ, List, map, Option}
+use Rattle.std.specs.Prelude.{ℕ, zero, suc, List, map, Option, Some, None}
 use Rattle.format.specs.Records as records
 use Rattle.words.specs.Spelled.{spelled}
 use Rattle.table.specs.Items.{items_of}
@@ -23,3 +23,8 @@ states_of t = map state_of (items_of t)
 -- the children that are kept
 abbrev pub children_of : Children → List (Option ℕ)
 children_of c = items_of c.numbers
+
+-- the number of a name, where it is declared
+abbrev pub numbered : ℕ → Option ℕ
+numbered zero = None
+numbered (suc n) = Some (suc n)

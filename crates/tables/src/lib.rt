@@ -23,3 +23,22 @@ pub struct State {
     pub name: Name,
     pub weight: u32,
 }
+
+// What stands in the places of a table that are not taken yet.
+impl Default for Symbol {
+    fn default() -> Symbol {
+        Symbol {
+            name: Name::a(),
+            rank: 0,
+        }
+    }
+}
+
+impl Default for State {
+    fn default() -> State {
+        State {
+            name: Name::a(),
+            weight: 0,
+        }
+    }
+}

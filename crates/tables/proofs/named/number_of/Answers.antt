@@ -20,4 +20,5 @@ returns g c =
     let first = IsFirst-from_position _ _ c.position.result (λ y. called y ≡ x) (λ y. called y ≡ x → ⊥) c.position.ensures.ran (YieldsList-from_slice xs (cc)) (λ y q k. search (rules, tests)) (λ y q k. search (rules, tests)) in
     let w = c.in_ok-at.was in
     let f = rw w at first in
-    (omega arith, sym (first_called called x xs c.in_ok-at.at f.0 f.1 f.2))
+    let e = first_called called x xs c.in_ok-at.at f.0 f.1 f.2 in
+    (omega arith, sym e)
