@@ -73,9 +73,7 @@ impl Reader {
     pub(crate) fn line(&mut self, bytes: &[u8]) -> Result<(), Refusal>
         ensures { TookBytes (meaning self.old) bytes.now result (meaning self.new) }
     {
-        let Some(line) = parse(bytes) else {
-            return Err(Refusal::Malformed);
-        };
+        let line = parse(bytes).ok_or(Refusal::Malformed)?;
         if !may_follow(&self.draft, self.place, line) {
             return Err(Refusal::Malformed);
         }
