@@ -1,4 +1,5 @@
-// Clearing a vector by rows.
+// Clearing a vector by rows. These are functions of a field and a slice: as methods of a struct of both, each would have to say
+// that the field stays, in place of what it says of the codes, and would be no plainer.
 ghost use Rattle.std.specs.Prelude.{◌≡◌, ◌<◌, ◌≤◌, map, length};
 ghost use Rattle.elimination.specs.Rows.{Clears, row_of};
 ghost use Rattle.elimination.specs.Vectors.{VectorOver, cleared_by, reduced_by};

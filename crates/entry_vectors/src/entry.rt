@@ -56,7 +56,7 @@ impl<'a, F: Field> Valuation<'a, F> {
     }
 
     // The vector of a symbol over the vectors of its children, in the first places, as many as there are states.
-    fn vector(&self, e: &Entry) -> [u32; 12]
+    pub fn vector(&self, e: &Entry) -> [u32; 12]
         requires earlier { Earlier (vectors_of self.now.vectors) (entry_of e.now) }
         ensures value { take (many (automaton_of self.now.automaton.now)) result ≡ entry_vector (ops (F.Field.model self.now.field.now)) (automaton_of self.now.automaton.now) (vectors_of self.now.vectors) (entry_of e.now) }
         ensures below { AllBelow (F.Field.model self.now.field.now).size result }
