@@ -1,8 +1,8 @@
 -- The sums over the rules that lead to a state, gathered rule by rule from the last.
-use Rattle.std.proofs.Common.{◌≡◌, ℕ, zero, suc, ◌-◌, ◌<◌, ◌≤◌, Bool, true, false, cond, ◌&&◌, eqb, ◌≢◌, List, [], ◌∷◌, ◌++◌, map, length, get_or, take, set, replicate, sym, refl, ap, ◌∙◌, inl, inr, arith, length-set}
+use Rattle.std.proofs.Common.{◌≡◌, ℕ, zero, suc, ◌-◌, ◌<◌, ◌≤◌, Bool, true, false, cond, ◌&&◌, eqb, ◌≢◌, List, [], ◌∷◌, ◌++◌, map, length, get_or, take, replicate, sym, refl, ap, ◌∙◌, inl, inr, arith, length-set}
 use lib.ListN.{length-map, get_or-replicate}
 use Rattle.std.proofs.lemmas.List.Sums.{fold_push}
-use Rattle.std.proofs.lemmas.List.{ext_get_or, map_push, get_or-map, get_or-set_other, get_or-set_same, get_or-take, length-take-le, set_past}
+use Rattle.std.proofs.lemmas.List.{ext_get_or, map_push, get_or-map, get_or-set_other, get_or-set_same, get_or-take, length-take-le}
 use Rattle.std.proofs.lemmas.Bool.Decides.{eqb_tells}
 use Rattle.field.specs.Ops.{Ops, total}
 use Rattle.equivalence.specs.Automata.{Rule, Automaton, states, numbers, leading}
@@ -19,20 +19,6 @@ module _ (o : Ops ℕ) where
   pub length_added : (t x : ℕ) (v : List ℕ) → length (added o t x v) ≡ length v
   length_added zero x v = refl
   length_added (suc t) x v = length-set v t _
-
-  pub added_past : (t x : ℕ) (v : List ℕ) → length v < t → added o t x v ≡ v
-  added_past zero x v h = refl
-  added_past (suc t) x v h = set_past v t _ (omega arith)
-
-  pub added_none : (t x : ℕ) (v : List ℕ) → t ≡ 0 → added o t x v ≡ v
-  added_none zero x v h = refl
-  added_none (suc t) x v h = absurd (omega arith)
-
-  pub added_at : (t x y : ℕ) (v : List ℕ) → 1 ≤ t → y ≡ o.sum x (get_or v (t - 1) o.nil) → set v (t - 1) y ≡ added o t x v
-  added_at zero x y v h e = absurd (omega arith)
-  added_at (suc t) x y v h e =
-      let at : suc t - 1 ≡ t = omega arith in
-      ap (set v (suc t - 1)) e ∙ ap (λ i. set v i (o.sum x (get_or v i o.nil))) at
 
   added_read :
       (t x s : ℕ) (v : List ℕ)
