@@ -1,3 +1,4 @@
+-- How the automaton of a side is lent.
 use Rattle.std.specs.Borrow.{Lends, MutBor, Fml}
 use Rattle.automaton.specs.contracts.Automaton as automaton
 use Rattle.automaton.specs.declared.Automaton.{Automaton}

@@ -1,18 +1,13 @@
 -- What a setting and a side are given, and what a tree weighs in a side.
-use Rattle.std.specs.Prelude.{◌≡◌, ℕ, suc, ◌<◌, ◌≤◌, List, [], ◌∷◌, ◌++◌, length, Result, MatchResult}
+use Rattle.std.specs.Prelude.{◌≡◌, ℕ, suc, ◌≤◌, List, [], ◌∷◌, ◌++◌, length, Result, MatchResult}
 use Rattle.automaton.specs.Tables.{automaton_of}
 use Rattle.automaton.specs.declared.Automaton.{Automaton}
 use Rattle.equivalence.specs.Automata as automata
 use Rattle.equivalence.specs.Entries.{Entry, WellFormed, tree_of}
 use Rattle.field.specs.Algebra.{Algebra, ops}
 use Rattle.refusals.specs.declared.Refusal.{Refusal}
-use Rattle.refusals.specs.declared.Refusal.TheVariants.{MalformedTree, RankTooLarge, TableFull}
-use Rattle.session.specs.Calls.{Check, AllPass, FirstFailing}
-
--- the checks of a symbol that are made on the symbols before it, in their order
-abbrev pub symbol_checks : List ℕ → ℕ → List Check
-symbol_checks ranks k =
-    record { refusal = RankTooLarge; passes = k ≤ 3 } ∷ record { refusal = TableFull; passes = length ranks < 12 } ∷ []
+use Rattle.refusals.specs.declared.Refusal.TheVariants.{MalformedTree}
+use Rattle.session.specs.Calls.{Check, AllPass, FirstFailing, symbol_checks}
 
 -- One symbol more is declared and has the next number, or the first check that fails gives the refusal and the ranks are
 -- as they were.
