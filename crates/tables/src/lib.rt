@@ -1,7 +1,7 @@
 // What a text declares beside its rules, and the children of a rule while it is read.
 #![tactic(auto)]
 
-ghost use Rattle.std.specs.Prelude.{◌≤◌};
+ghost use Rattle.std.specs.Prelude.{◌^◌, ◌<◌, ◌≤◌};
 
 use words::Name;
 
@@ -22,6 +22,7 @@ pub struct Symbol {
 pub struct State {
     pub name: Name,
     pub weight: u32,
+    ghost fits: { weight < 2 ^ 32 },
 }
 
 // What stands in the places of a table that are not taken yet.

@@ -10,7 +10,7 @@ use Rattle.format.specs.Records.{part}
 use Rattle.equivalence.specs.Automata as automata
 use Rattle.shapes.specs.declared.shape.Kind.{Kind}
 use Rattle.rules.specs.Rules.{rule_model}
-use Rattle.rules.specs.declared.tables.Rule.{Rule}
+use Rattle.rules.specs.declared.Rule.{Rule}
 use Rattle.drafts.specs.Drafts.{part_of, side_part}
 use Rattle.drafts.specs.declared.Draft.{Draft}
 use Rattle.lines.specs.Recognized.{side_of}
