@@ -1,10 +1,10 @@
 // Reading a draft.
-ghost use Rattle.std.specs.Prelude.{◌≡◌, ◌-◌, ◌≤◌, map, length, slice_index, MatchOption};
+ghost use Rattle.std.specs.Prelude.{◌≡◌, ◌-◌, ◌≤◌, map, length, slice_index};
 ghost use Rattle.drafts.specs.Drafts.{rules_of, states_of, side_part};
-ghost use Rattle.format.specs.Reading.{Declared, Undeclared, number_of as numbered};
 ghost use Rattle.format.specs.Records.{state_names, symbol_names};
 ghost use Rattle.rules.specs.Rules.{rule_model};
 ghost use Rattle.table.specs.Items.{items_of};
+ghost use Rattle.tables.specs.Names.{Finds};
 ghost use Rattle.tables.specs.Tables.{state_of, symbols_of};
 
 use crate::{Draft, Part};
@@ -24,7 +24,7 @@ impl Part {
 
     // The number of a state by its name, where it is declared.
     pub(crate) fn state_number(&self, name: &[u8]) -> Option<u32>
-        ensures { MatchOption result (Undeclared (state_names (states_of self.now)) name.now) (λ n. Declared (state_names (states_of self.now)) name.now × (n ≡ numbered (state_names (states_of self.now)) name.now)) }
+        ensures { Finds (state_names (states_of self.now)) name.now result }
     {
         number_of(self.states(), name)
     }
@@ -56,7 +56,7 @@ impl Draft {
 
     // The number of a symbol by its name, where it is declared.
     pub(crate) fn symbol_number(&self, name: &[u8]) -> Option<u32>
-        ensures { MatchOption result (Undeclared (symbol_names (symbols_of self.now.symbols)) name.now) (λ n. Declared (symbol_names (symbols_of self.now.symbols)) name.now × (n ≡ numbered (symbol_names (symbols_of self.now.symbols)) name.now)) }
+        ensures { Finds (symbol_names (symbols_of self.now.symbols)) name.now result }
     {
         number_of(self.symbols(), name)
     }

@@ -1,6 +1,6 @@
 // Finding what has a name by its name.
-ghost use Rattle.std.specs.Prelude.{◌≡◌, ℕ, ◌^◌, ◌<◌, ◌≤◌, List, map, length, MatchOption};
-ghost use Rattle.format.specs.Reading.{Declared, Undeclared, number_of};
+ghost use Rattle.std.specs.Prelude.{◌≡◌, ℕ, ◌^◌, ◌<◌, List, map, length};
+ghost use Rattle.tables.specs.Names.{Finds};
 ghost use Rattle.words.specs.Spelled.{spelled};
 
 use crate::{State, Symbol};
@@ -33,7 +33,7 @@ impl Named for State {
 // The number, from 1, of the first with the name, if there is one.
 pub fn number_of<T: Named>(items: &[T], name: &[u8]) -> Option<u32>
     requires { length items.now < 2 ^ 32 }
-    ensures { MatchOption result (Undeclared (map T.called items.now) name.now) (λ n. Declared (map T.called items.now) name.now × (n ≡ number_of (map T.called items.now) name.now)) }
+    ensures { Finds (map T.called items.now) name.now result }
 {
     let at = items.iter().position(|item| item.name().is(name))?;
     Some(at as u32 + 1)
