@@ -18,7 +18,8 @@ pub struct Automaton {
     rules: Table<Rule, 256>,
 }
 
-// An entry of a list that stands for a tree: a symbol over earlier entries, 0 where there is no child.
+// An entry of a list that stands for a tree: a symbol over earlier entries, 0 where there is no child; trees are given to a
+// comparison in these numbers.
 #[derive(Clone, Copy)]
 pub struct Entry {
     pub symbol: u32,

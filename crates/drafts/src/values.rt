@@ -98,7 +98,8 @@ impl Draft {
         children.and(self.part(side).state_number(name))
     }
 
-    // The rule of a side with these names, where they are declared and it has as many children as its symbol's rank.
+    // The rule of a side with these names, where they are declared and it has as many children as its symbol's rank. What is
+    // given are the parts of `Line::Rule` but for the children: a struct of the five would be taken apart at once.
     fn make_rule(
         &self,
         side: Side,

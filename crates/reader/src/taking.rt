@@ -14,7 +14,8 @@ use places::{Place, may_follow};
 use refusals::Refusal;
 use tables::Children;
 
-// The children of a rule of a side, by their names, which are parted by spaces.
+// The children of a rule of a side, by their names, which are parted by spaces. `first_name` gives what is left with
+// each name, so this is a loop and no chain.
 fn children(draft: &Draft, side: Side, names: &[u8]) -> Children
     ensures { ChildrenAre draft.now side (parted names.now) result }
 {
