@@ -1,11 +1,17 @@
 -- The sessions on the way from a beginning to the record's automata. Assumes nothing.
-use Rattle.std.proofs.Common.{◌≡◌, ℕ, List, [], map, length, sym, ap, ◌∙◌, subst}
+use Rattle.std.proofs.Common.{◌≡◌, ℕ, List, [], map, length, Ok, Err, Result, refl, sym, ap, ◌∙◌, subst}
+use Rattle.std.specs.Result.{IsOk}
 use mathlib.Core.List.{map-map}
 use lib.ListN.{length-map, length-replicate}
 use Rattle.equivalence.specs.Automata.{Automaton, states}
 use Rattle.format.specs.Records.{Part, Record, State, Symbol, automaton}
 use Rattle.rules.specs.Rules.{rule_model}
-use Rattle.rules.specs.declared.tables.Rule as rules
+use Rattle.rules.specs.declared.Rule as rules
+use Rattle.comparison.specs.Comparisons.{Counted}
+use Rattle.comparison.specs.declared.counts.Counts.{Counts}
+use Rattle.refusals.specs.declared.Refusal.{Refusal}
+use Rattle.session.proofs.Outcomes.{not_both}
+use Rattle.session.specs.Calls.{AllPass, count_checks}
 use Rattle.session.specs.Sessions.{Session, begun, blank, side, with_side, with_sides}
 use Rattle.session.specs.Validity.{ValidSide}
 use Rattle.session.specs.declared.Phase.TheVariants.{Open}
@@ -61,7 +67,6 @@ module _ (s t : Session) (ks : List ℕ) (M N P Q : Automaton ℕ) (e : s ≡ st
 
 -- a side as it began takes a part of the record
 pub record ReadySide (q : ℕ) (s : Session) (x : ℕ) (M : Automaton ℕ) : Type 0 where
-  pub phase : s.phase ≡ Open
   pub bare : (side s.sides x).rules ≡ []
   pub valid : ValidSide q s.sides.ranks (states (side s.sides x)) M
 
@@ -69,19 +74,22 @@ module _ (q o x : ℕ) (s : Session) (ss : List Symbol) (p : Part) (M : Automato
   pub ready_side :
       ReadyPart o ss p
       → q ≡ o
-      → s.phase ≡ Open
       → s.sides.ranks ≡ ranks ss
       → side s.sides x ≡ blank (length p.states)
       → M ≡ automaton p
       → ReadySide q s x M
-  ready_side v e f h k j =
+  ready_side v e h k j =
       let n = length p.states in
       let count : states (side s.sides x) ≡ n = ap states k ∙ length-replicate n 0 in
       record {
-        phase = f;
         bare = ap (λ (z : Automaton ℕ). z.rules) k;
         valid =
             subst (λ z. ValidSide z s.sides.ranks (states (side s.sides x)) M) (sym e)
             (subst (λ z. ValidSide o z (states (side s.sides x)) M) (sym h)
             (subst (λ z. ValidSide o (ranks ss) z M) (sym count) (subst (λ z. ValidSide o (ranks ss) n z) (sym j) v.valid)));
       }
+
+-- counts that pass are accepted
+pub counted : (n m : ℕ) (r : Result Counts Refusal) → AllPass (count_checks n m) → Counted n m r → IsOk r
+counted n m (Ok c) pass h = refl
+counted n m (Err e) pass h = absurd (not_both (count_checks n m) e pass h)
