@@ -1,5 +1,5 @@
 -- A text is cut at a byte in one way, and so is a line of fields parted by spaces.
-use Rattle.std.proofs.Common.{◌≡◌, ℕ, ◌+◌, ◌-◌, ◌<◌, ◌≤◌, List, [], ◌∷◌, ◌++◌, length, get_or, take, drop, sym, refl, ap, ◌∙◌, arith, take-append-drop}
+use Rattle.std.proofs.Common.{◌≡◌, ℕ, ◌+◌, ◌-◌, ◌<◌, ◌≤◌, List, [], ◌∷◌, ◌++◌, length, get_or, take, drop, sym, refl, ap, arith, take-append-drop}
 use Rattle.std.specs.List.{AllByRecursion, AllWithin}
 use Rattle.std.proofs.ByRecursion.{All-append, All-from_get_or}
 use Rattle.std.proofs.lemmas.List.{drop_more, take_rest, length-take-le, get_or-take}
@@ -28,9 +28,6 @@ module _ (b : ℕ) where
       let r = cut_unique xs xs' ys ys' h.1 h'.1 (cc) in
       let same = r.0 in
       (cc, r.1)
-
-  pub cut_is : (text front rest xs ys : List ℕ) → Cut b text front rest → Lacks b xs → text ≡ xs ++ (b ∷ ys) → (front ≡ xs) × (rest ≡ ys)
-  cut_is text front rest xs ys c h e = cut_unique front xs rest ys c.1 h (sym c.0 ∙ e)
 
   -- a list that lacks b is not cut at b
   pub lacks_cut : (xs front rest : List ℕ) → Lacks b xs → xs ≡ front ++ (b ∷ rest) → ⊥

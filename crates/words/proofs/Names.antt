@@ -7,7 +7,6 @@ use Rattle.std.proofs.ByRecursion.{All-get_or, All-from_get_or, Decides-by_and}
 use Rattle.std.proofs.lemmas.Bool.{and_parts, and_from, or_left, leb-true, le-leb, both_ways}
 use Rattle.std.proofs.lemmas.List.{length-take-le, take_at, drop_at, drop-replicate}
 use Rattle.std.specs.Prelude.{nat_le}
-use Rattle.words.proofs.Lines.{Field}
 use Rattle.words.specs.declared.name.Name.{Name}
 use Rattle.words.specs.Spelled.{spelled}
 use Rattle.words.specs.Words.{Lacks, small, inner, is_name}
@@ -80,16 +79,7 @@ module _ (n : Name) where
   pub spelled_length : length (spelled n) ≡ n.len
   spelled_length = length-take-le n.len n.bytes (omega arith)
 
-  pub spelled_named : Named (spelled n)
-  spelled_named = named (spelled n) n.named
-
-  pub spelled_lacks : (b : ℕ) → inner b ≡ false → Lacks b (spelled n)
-  spelled_lacks b out = name_lacks b out (spelled n) n.named
-
-  pub spelled_field : Field (spelled n)
-  spelled_field = (spelled_named.some, spelled_lacks 32 refl)
-
--- names with the same bytes are the same record
+-- names with the same bytes are the same record, so that their derived equality is that of their bytes
 pub same_from_spelled : (m n : Name) → spelled m ≡ spelled n → m ≡ n
 same_from_spelled m n e =
     let l : m.len ≡ n.len = sym (spelled_length m) ∙ ap length e ∙ spelled_length n in

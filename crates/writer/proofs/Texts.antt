@@ -25,10 +25,6 @@ use Rattle.drafts.specs.Drafts.{record_of}
 pub lines_are : {X Y : Type 0} (f : Y → Line) (g : X → Y) (xs : List X) {ys : List Y} → map g xs ≡ ys → map (λ x. f (g x)) xs ≡ map f ys
 lines_are f g xs e = sym (map-map f g xs) ∙ ap (map f) e
 
-pub rules_are : (d : lines.Side) {ss ss' : List records.Symbol} {ts ts' : List records.State} {us' : List (automata.Rule ℕ)} (us : List Rule) → ss ≡ ss' → ts ≡ ts' → map rule_model us ≡ us' → map (λ u. rule_by d ss ts (rule_model u)) us ≡ map (rule_by d ss' ts') us'
-rules_are d {ss} {ss'} {ts} {ts'} {us'} us p q e =
-    lines_are (rule_by d ss ts) rule_model us e ∙ ap (λ xs. map (rule_by d xs ts) us') p ∙ ap (λ xs. map (rule_by d ss' xs) us') q
-
 pub kind_is : {k l : Kind} {n m : ℕ} → k ≡ l → n ≡ m → ended (lines.names_field k n) ≡ ended (lines.names_field l m)
 kind_is {k} {l} {n} {m} p q = ap (λ x. ended (lines.names_field x n)) p ∙ ap (λ x. ended (lines.names_field l x)) q
 

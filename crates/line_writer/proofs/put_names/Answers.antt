@@ -3,9 +3,6 @@ use Rattle.words.proofs.Puts.{nothing, next_item, all_items}
 use Rattle.line_writer.specs.Writing.{after_space, named}
 use Rattle.line_writer.proofs.put_names.Goals as goal
 
-pub loop-k-init : goal.loop-k-init
-loop-k-init g c = nothing _
-
 pub loop-k-preserved : goal.loop-k-preserved
 loop-k-preserved g c =
     next_item after_space (named (map g.T.Named.called c.args.items.now)) _ c.loop-k.k-index 0 c.loop-k-test.true refl c.loop-k.invariant c.put_name.ensures

@@ -9,9 +9,10 @@ use Rattle.words.proofs.spelling.is_name.Goals.{then-is_ascii_lowercase, else-is
 
 pub returns-then-all : goal.returns-then-all
 returns-then-all c =
+    let e = first_rest c.args.part.now 0 (omega arith) in
     elim c.if-is_ascii_lowercase.branch [
       | then-is_ascii_lowercase w ↦
           let all = cases_from_all _ _ true (λ b. inner b ≡ true) (λ b. inner b ≡ false) (rw (sym w.value-is ∙ c.if-all.true) at w.all.ensures.ran) (YieldsList-from_slice _ cc) (λ x q k. search (rules, tests)) (λ x q k. search (rules, tests)) in
-          name_is _ _ _ (first_rest c.args.part.now 0 (omega arith)) (sym w.if-is_ascii_lowercase.ensures.value) all
+          name_is _ _ _ e (sym w.if-is_ascii_lowercase.ensures.value) all
       | else-is_ascii_lowercase w ↦ absurd (let e : false ≡ true = sym w.if-is_ascii_lowercase.false ∙ sym w.value-is ∙ c.if-all.true in cc)
     ]

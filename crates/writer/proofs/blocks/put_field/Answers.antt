@@ -6,9 +6,6 @@ use Rattle.line_writer.specs.Writing.{ended, step_line}
 use Rattle.writer.proofs.Texts.{kind_is}
 use Rattle.writer.proofs.blocks.put_field.Goals as goal
 
-pub loop-u-init : goal.loop-u-init
-loop-u-init c = nothing _
-
 pub loop-u-preserved : goal.loop-u-preserved
 loop-u-preserved c =
     next_item ended step_line _ c.loop-u.u-index (0, 0) c.loop-u-test.true refl c.loop-u.invariant c.put_step.ensures

@@ -10,9 +10,6 @@ use Rattle.line_writer.specs.Writing.{ended, rule_by}
 use Rattle.writer.proofs.Texts.{lines_are, part_is}
 use Rattle.writer.proofs.blocks.put_rules.Goals as goal
 
-pub loop-rule-init : goal.loop-rule-init
-loop-rule-init c = nothing _
-
 pub loop-rule-preserved : goal.loop-rule-preserved
 loop-rule-preserved c =
     let d = side_of c.args.side in

@@ -8,9 +8,6 @@ use Rattle.line_writer.specs.Writing.{ended, state_line}
 use Rattle.writer.proofs.Texts.{lines_are, part_is}
 use Rattle.writer.proofs.blocks.put_states.Goals as goal
 
-pub loop-state-init : goal.loop-state-init
-loop-state-init c = nothing _
-
 pub loop-state-preserved : goal.loop-state-preserved
 loop-state-preserved c =
     next_item ended (state_line (side_of c.args.side)) _ c.loop-state.state-index _ c.loop-state-test.true c.state-item.is c.loop-state.invariant c.put_state.ensures

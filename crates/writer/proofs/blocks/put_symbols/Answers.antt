@@ -6,9 +6,6 @@ use Rattle.line_writer.specs.Writing.{ended, symbol_line}
 use Rattle.writer.proofs.Texts.{lines_are}
 use Rattle.writer.proofs.blocks.put_symbols.Goals as goal
 
-pub loop-symbol-init : goal.loop-symbol-init
-loop-symbol-init c = nothing _
-
 pub loop-symbol-preserved : goal.loop-symbol-preserved
 loop-symbol-preserved c =
     next_item ended symbol_line _ c.loop-symbol.symbol-index _ c.loop-symbol-test.true c.symbol-item.is c.loop-symbol.invariant c.put_symbol.ensures
