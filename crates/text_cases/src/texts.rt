@@ -59,7 +59,7 @@ impl Run<'_> {
         let printed = report(heap, &text)?;
         let expected = page(heap, &text, fault)?;
         println!(self.rt; "text, {what}: expected {wanted}, got {came}")?;
-        self.tally.note(came == wanted && printed.as_slice() == expected);
+        self.tally.note(came == wanted && printed.as_slice() == expected.as_slice());
         Ok(())
     }
 

@@ -26,7 +26,7 @@ fn entries(heap: Global, tree: &GivenTree) -> Result<Vec<Entry>, AllocError> {
         })?;
     }
     for _ in 0..tree.2 {
-        let last = entries.len() as u32;
+        let last = u32::try_from(entries.len()).unwrap_or(0);
         entries.push(Entry {
             symbol: 2,
             children: [last, last, 0],
@@ -63,7 +63,7 @@ impl fmt::Display for Number {
     }
 }
 
-fn number<T: Drop>(r: Result<T, Refusal>) -> Number {
+fn number_of<T: Drop>(r: Result<T, Refusal>) -> Number {
     Number(r.err().map(Refusal::number))
 }
 
@@ -73,7 +73,7 @@ struct Edge(&'static str, Number, Number);
 
 // An edge at which a call has to be refused by a number.
 fn refused<T: Drop>(what: &'static str, wanted: u32, r: Result<T, Refusal>) -> Edge {
-    Edge(what, Number(Some(wanted)), number(r))
+    Edge(what, Number(Some(wanted)), number_of(r))
 }
 
 fn declaring(c: &mut Comparison<Prime>) -> [Edge; 9] {
@@ -102,7 +102,7 @@ fn filling(c: &mut Comparison<Prime>) -> [Edge; 4] {
         refused("a 13th symbol", 205, c.symbol(0)),
         refused("a 13th symbol of rank 4", 110, c.symbol(4)),
         refused("a 257th rule", 205, c.rule(0, 12, 1, 1, &[])),
-        Edge("a rule of B", DONE, number(c.rule(1, 12, 1, 1, &[]))),
+        Edge("a rule of B", DONE, number_of(c.rule(1, 12, 1, 1, &[]))),
     ]
 }
 
