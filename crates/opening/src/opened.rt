@@ -3,7 +3,7 @@ ghost use Rattle.comparison.specs.Comparisons.{session};
 ghost use Rattle.session.specs.declared.Phase.TheVariants.{Open};
 ghost use Rattle.std.specs.Prelude.{◌≡◌};
 
-use comparison::comparison::Comparison;
+use comparison::Comparison;
 use field::Field;
 
 #[derive(Drop)]
