@@ -5,8 +5,7 @@ use crate::weigh_rows::{
     Weighed,
 };
 use automaton::Entry;
-use comparison::comparison::Comparison;
-use comparison::counts::Counts;
+use comparison::{Comparison, Counts};
 use field::Field;
 use gf256::Byte;
 use prime::Prime;
