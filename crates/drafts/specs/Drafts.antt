@@ -5,7 +5,7 @@ use Rattle.format.specs.Records as records
 use Rattle.format.specs.Reading as reading
 use Rattle.shapes.specs.Shapes.{shape_kind, steps}
 use Rattle.side.specs.declared.Side.{Side}
-use Rattle.side.specs.declared.Side.TheVariants.{A, B}
+use Rattle.side.specs.Both.{at}
 use Rattle.rules.specs.Rules as rules
 use Rattle.tables.specs.Tables as tables
 use Rattle.tables.specs.Tables.{symbols_of, children_of, numbered}
@@ -24,8 +24,7 @@ abbrev pub part_of : Part → records.Part
 part_of p = record { states = states_of p; rules = rules_of p }
 
 abbrev pub side_part : Draft → Side → Part
-side_part d A = d.a
-side_part d B = d.b
+side_part d x = at d.parts x
 
 -- the coefficients of the extensions so far
 abbrev pub extensions : Draft → List (ℕ × ℕ)
@@ -40,8 +39,8 @@ draft_of d p =
       count = d.announced;
       steps = extensions d;
       symbols = symbols_of d.symbols;
-      a = part_of d.a;
-      b = part_of d.b;
+      a = part_of d.parts.a;
+      b = part_of d.parts.b;
     }
 
 -- the record that it declares
@@ -51,8 +50,8 @@ record_of d =
       kind = shape_kind d.field;
       steps = steps d.field;
       symbols = symbols_of d.symbols;
-      a = part_of d.a;
-      b = part_of d.b;
+      a = part_of d.parts.a;
+      b = part_of d.parts.b;
     }
 
 -- The children kept are the first four of the numbers of these states of a side.

@@ -5,6 +5,7 @@ ghost use Rattle.std.specs.Prelude.{◌≤◌};
 
 use rules::Rule;
 use shapes::shape::Shape;
+use side::Both;
 use table::Table;
 use tables::{State, Symbol};
 
@@ -25,7 +26,6 @@ pub struct Draft {
     pub(crate) field: Shape,
     pub(crate) announced: u32,
     pub(crate) symbols: Table<Symbol, 12>,
-    pub(crate) a: Part,
-    pub(crate) b: Part,
+    pub(crate) parts: Both<Part>,
     ghost two: { announced ≤ 2 },
 }

@@ -62,7 +62,7 @@ impl Draft {
     }
 
     // The rank of a symbol by its number.
-    pub(crate) fn rank(&self, number: u32) -> u32
+    pub fn rank(&self, number: u32) -> u32
         requires low { 1 ≤ number }
         requires high { number ≤ length (symbols_of self.now.symbols) }
         ensures is { result ≡ slice_index (map (λ s. s.rank) (symbols_of self.now.symbols)) (number - 1) }
@@ -75,9 +75,6 @@ impl Draft {
     pub fn part(&self, side: Side) -> &Part
         ensures { result.now ≡ side_part self.now side }
     {
-        match side {
-            Side::A => &self.a,
-            Side::B => &self.b,
-        }
+        self.parts.at(side)
     }
 }

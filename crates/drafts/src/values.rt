@@ -13,6 +13,7 @@ use lines::Side;
 use refusals::Refusal;
 use rules::Rule;
 use shapes::shape::{Kind, Shape};
+use side::Both;
 use table::Table;
 use tables::{Children, State, Symbol};
 use words::Name;
@@ -30,8 +31,7 @@ impl Draft {
             field: Shape::of_kind(Kind::Bytes).unwrap(),
             announced: 0,
             symbols: Table::new(),
-            a: part,
-            b: part,
+            parts: Both { a: part, b: part },
         }
     }
 
@@ -83,11 +83,8 @@ impl Draft {
             return Err(Refusal::WeightTooLarge);
         }
         let name = Name::new(name).unwrap();
-        let state = State { name, weight };
-        match side {
-            Side::A => self.a.states.push(state)?,
-            Side::B => self.b.states.push(state)?,
-        }
+        let part = self.parts.at_mut(side);
+        part.states.push(State { name, weight })?;
         Ok(())
     }
 
@@ -140,10 +137,7 @@ impl Draft {
         ensures { (cs : List (List ℕ)) → ChildrenAre self.old side cs children → Takes self.old (gives_rule (side_of side) symbol.now target.now weight cs) result self.new }
     {
         let rule = self.make_rule(side, symbol, target, weight, children)?;
-        match side {
-            Side::A => self.a.rules.push(rule)?,
-            Side::B => self.b.rules.push(rule)?,
-        }
+        self.parts.at_mut(side).rules.push(rule)?;
         Ok(())
     }
 }

@@ -10,16 +10,16 @@ use Rattle.session.specs.Calls.{Call, Does, Outcome, call_rule, call_symbol, rul
 use Rattle.session.specs.Sessions.{Session, ruled}
 use Rattle.session.specs.Validity.{Valid}
 use Rattle.session.proofs.Validity.{does_still}
+use Rattle.side.specs.Both.{at, with_at}
 use Rattle.side.specs.Numbers.{number}
 use Rattle.side.specs.declared.Side.{Side}
+use Rattle.side.specs.declared.both.Both.{Both}
 use Rattle.side.specs.declared.Side.TheVariants as side
-use Rattle.sides.specs.Automata.{at, with_at}
 use Rattle.sides.specs.Sides.{Declares, Takes}
-use Rattle.sides.specs.declared.automata.Automata.{Automata}
 use Rattle.sides.specs.declared.setting.Setting.{Setting}
 use Rattle.table.specs.Items.{items_of}
 
-module _ {X : Type 0} (A : Algebra) (s : Setting X) (ms : Automata) (f t w : ℕ) (cs : List ℕ) where
+module _ {X : Type 0} (A : Algebra) (s : Setting X) (ms : Both Automaton) (f t w : ℕ) (cs : List ℕ) where
   -- the automaton l is given the rule, and is m then
   abbrev TakesRule : Automaton → Result (Unit {0}) Refusal → Automaton → Type 0
   TakesRule l r m =

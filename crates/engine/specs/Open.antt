@@ -4,11 +4,12 @@ use Rattle.automaton.specs.Tables.{automaton_of}
 use Rattle.equivalence.specs.Automata.{Sides}
 use Rattle.session.specs.Sessions.{Session}
 use Rattle.session.specs.declared.Phase.TheVariants.{Open}
-use Rattle.sides.specs.declared.automata.Automata.{Automata}
+use Rattle.automaton.specs.declared.Automaton.{Automaton}
+use Rattle.side.specs.declared.both.Both.{Both}
 use Rattle.sides.specs.declared.setting.Setting.{Setting}
 use Rattle.table.specs.Items.{items_of}
 
-abbrev pub sides : {X : Type 0} → Setting X → Automata → Sides ℕ
+abbrev pub sides : {X : Type 0} → Setting X → Both Automaton → Sides ℕ
 sides s m = record { ranks = items_of s.ranks; a = automaton_of m.a; b = automaton_of m.b }
 
 -- an open session that holds these sides

@@ -7,7 +7,8 @@ ghost use Rattle.std.specs.Prelude.{◌≡◌, ◌≤◌};
 use crate::state::State;
 use automaton::Automaton;
 use field::Field;
-use sides::{Automata, Setting};
+use side::Both;
+use sides::Setting;
 
 impl<F: Field> State<F> {
     // Nothing declared, with so many states on each side.
@@ -19,7 +20,7 @@ impl<F: Field> State<F> {
     {
         State {
             setting: Setting::new(field),
-            automata: Automata {
+            automata: Both {
                 a: Automaton::blank(a),
                 b: Automaton::blank(b),
             },

@@ -4,12 +4,14 @@ ghost use Rattle.session.specs.Validity.{Valid};
 ghost use Rattle.std.proofs.Props.{props};
 
 use field::Field;
-use sides::{Automata, Setting};
+use automaton::Automaton;
+use side::Both;
+use sides::Setting;
 
 // The setting and both automata, which are valid over it.
 #[derive(Drop)]
 pub struct State<F: Field> {
     pub(crate) setting: Setting<F>,
-    pub(crate) automata: Automata,
+    pub(crate) automata: Both<Automaton>,
     ghost valid: { Valid (F.Field.model setting.field) (opened (sides setting automata)) } by { Prim.hlevel props },
 }

@@ -75,3 +75,8 @@ unfoldable pub extendable : Algebra → ℕ → ℕ → Bool
 extendable B u v =
     nat_le B.size 65536
     && (nat_lt u B.size && (nat_lt v B.size && not (is_some (first (λ x. nat_eq (B.prod x x) (B.sum (B.prod u x) v)) B.size))))
+
+-- A value that extends its base: the base is a field, and u and v suit it.
+pub record Valid (P : Type 0) (B : Algebra) (u v : ℕ) : Type 0 where
+  pub base : P
+  pub extends : Extends B u v

@@ -1,10 +1,10 @@
 -- The fields of the six shapes.
-use Rattle.std.specs.Prelude.{◌≡◌, ℕ, ◌<◌, Bool, true, List, [], ◌∷◌, ◌++◌, length}
+use Rattle.std.specs.Prelude.{◌≡◌, ℕ, ◌<◌, Bool, true, ◌&&◌, List, [], ◌∷◌, ◌++◌, length}
 use Rattle.field.specs.Algebra.{Algebra}
 use Rattle.prime.specs.Moduli.{admitted}
 use Rattle.prime.specs.Residues.{residues}
 use Rattle.polynomials.specs.Polynomials.{gf256}
-use Rattle.extension.specs.Extension.{extension, Extends}
+use Rattle.extension.specs.Extension.{extension, extendable, Extends, Valid}
 use Rattle.shapes.specs.declared.shape.Kind.{Kind}
 use Rattle.shapes.specs.declared.shape.Kind.TheVariants.{Residues, Bytes}
 use Rattle.shapes.specs.declared.shape.Shape.{Shape}
@@ -34,6 +34,30 @@ algebra (PrimePair f) = extension (residues f.base.modulus) f.u f.v
 algebra (BytePair f) = extension gf256 f.u f.v
 algebra (PrimeTower f) = extension (extension (residues f.base.base.modulus) f.base.u f.base.v) f.u f.v
 algebra (ByteTower f) = extension (extension gf256 f.base.u f.base.v) f.u f.v
+
+-- each extension in it is one
+abbrev pub ValidShape : Shape → Type 0
+ValidShape (Prime f) = Unit {0}
+ValidShape (Byte f) = Unit {0}
+ValidShape (PrimePair f) = Valid (Unit {0}) (residues f.base.modulus) f.u f.v
+ValidShape (BytePair f) = Valid (Unit {0}) gf256 f.u f.v
+ValidShape (PrimeTower f) =
+    let B = residues f.base.base.modulus in
+    Valid (Valid (Unit {0}) B f.base.u f.base.v) (extension B f.base.u f.base.v) f.u f.v
+ValidShape (ByteTower f) =
+    Valid (Valid (Unit {0}) gf256 f.base.u f.base.v) (extension gf256 f.base.u f.base.v) f.u f.v
+
+-- the same as a test
+abbrev pub valid : Shape → Bool
+valid (Prime f) = true
+valid (Byte f) = true
+valid (PrimePair f) = extendable (residues f.base.modulus) f.u f.v
+valid (BytePair f) = extendable gf256 f.u f.v
+valid (PrimeTower f) =
+    let B = residues f.base.base.modulus in
+    extendable B f.base.u f.base.v && extendable (extension B f.base.u f.base.v) f.u f.v
+valid (ByteTower f) =
+    extendable gf256 f.base.u f.base.v && extendable (extension gf256 f.base.u f.base.v) f.u f.v
 
 -- the field of a kind
 abbrev pub kind_algebra : Kind → Algebra

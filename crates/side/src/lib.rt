@@ -5,6 +5,10 @@ ghost use Rattle.side.specs.Numbers.{NumberOf, Numbered};
 
 use refusals::Refusal;
 
+mod both;
+
+pub use both::Both;
+
 #[derive(Clone, Copy, PartialEq, Eq)]
 pub enum Side {
     A = 0,

@@ -1,3 +1,1 @@
-pub mod Automata
-pub mod Lending
 pub mod Sides

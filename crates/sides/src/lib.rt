@@ -1,11 +1,9 @@
 // What the automata of a comparison are over, and one side of it: rules and final weights given to it, and trees weighed in it.
 #![tactic(auto)]
 
-mod automata;
 mod giving;
 mod setting;
 mod symbols;
 mod weighed;
 
-pub use automata::Automata;
 pub use setting::Setting;

@@ -16,7 +16,7 @@ returns c p =
         count = d.announced;
         steps = e.1.1 j;
         symbols = symbols_of d.symbols;
-        a = part_of d.a;
-        b = part_of d.b;
+        a = part_of d.parts.a;
+        b = part_of d.parts.b;
       },
     )
