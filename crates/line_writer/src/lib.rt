@@ -1,7 +1,7 @@
 // The lines of a text, each written by a pen.
 #![tactic(auto)]
 
-ghost use Rattle.std.specs.Prelude.{◌≡◌, [], ◌∷◌, ◌++◌, map, decimal};
+ghost use Rattle.std.specs.Prelude.{◌≡◌, ◌+◌, ◌*◌, ◌≤◌, [], ◌∷◌, ◌++◌, map, length, decimal};
 ghost use Rattle.format.specs.Lines.{extends_by, letter, names_field};
 ghost use Rattle.line_writer.specs.Writing.{after_space, ended, named, rule_line, state_line, symbol_line};
 ghost use Rattle.lines.specs.Recognized.{side_of};
@@ -16,7 +16,8 @@ use words::Pen;
 
 // The last field of a line, a number: a space, the number and the line feed.
 fn put_last(pen: &mut Pen<'_>, n: u32)
-    ensures { Writes pen.old (32 ∷ (decimal n ++ (10 ∷ []))) pen.new }
+    ensures writes { Writes pen.old (32 ∷ (decimal n ++ (10 ∷ []))) pen.new }
+    ensures near { pen.new.at ≤ pen.old.at + 12 }
 {
     pen.byte(b' ');
     pen.number(n);
@@ -25,7 +26,8 @@ fn put_last(pen: &mut Pen<'_>, n: u32)
 
 // The kind of field and the number of its extensions.
 pub fn put_kind(pen: &mut Pen<'_>, kind: Kind, count: u32)
-    ensures { Writes pen.old (ended (names_field kind count)) pen.new }
+    ensures writes { Writes pen.old (ended (names_field kind count)) pen.new }
+    ensures near { pen.new.at ≤ pen.old.at + 28 }
 {
     match kind {
         Kind::Residues(p) => {
@@ -39,7 +41,8 @@ pub fn put_kind(pen: &mut Pen<'_>, kind: Kind, count: u32)
 
 // The coefficients of an extension.
 pub fn put_step(pen: &mut Pen<'_>, u: u32, v: u32)
-    ensures { Writes pen.old (ended (extends_by u v)) pen.new }
+    ensures writes { Writes pen.old (ended (extends_by u v)) pen.new }
+    ensures near { pen.new.at ≤ pen.old.at + 22 }
 {
     pen.number(u);
     put_last(pen, v);
@@ -47,7 +50,8 @@ pub fn put_step(pen: &mut Pen<'_>, u: u32, v: u32)
 
 // A symbol and its rank.
 pub fn put_symbol(pen: &mut Pen<'_>, symbol: &Symbol)
-    ensures { Writes pen.old (ended (symbol_line symbol.now)) pen.new }
+    ensures writes { Writes pen.old (ended (symbol_line symbol.now)) pen.new }
+    ensures near { pen.new.at ≤ pen.old.at + 20 }
 {
     pen.name(&symbol.name);
     put_last(pen, symbol.rank);
@@ -65,7 +69,8 @@ fn letter_of(side: Side) -> u8
 
 // A state of a side and its final weight.
 pub fn put_state(pen: &mut Pen<'_>, side: Side, state: &State)
-    ensures { Writes pen.old (ended (state_line (side_of side) state.now)) pen.new }
+    ensures writes { Writes pen.old (ended (state_line (side_of side) state.now)) pen.new }
+    ensures near { pen.new.at ≤ pen.old.at + 22 }
 {
     pen.byte(letter_of(side));
     pen.byte(b' ');
@@ -75,7 +80,8 @@ pub fn put_state(pen: &mut Pen<'_>, side: Side, state: &State)
 
 // A space and the name of the item with this number.
 fn put_name<T: Named>(pen: &mut Pen<'_>, items: &[T], number: u32)
-    ensures { Writes pen.old (after_space (named (map T.called items.now) number)) pen.new }
+    ensures writes { Writes pen.old (after_space (named (map T.called items.now) number)) pen.new }
+    ensures near { pen.new.at ≤ pen.old.at + 9 }
 {
     pen.byte(b' ');
     if let Some(item) = items.get(number.saturating_sub(1) as usize) {
@@ -85,7 +91,8 @@ fn put_name<T: Named>(pen: &mut Pen<'_>, items: &[T], number: u32)
 
 // A space and a name for each of the numbers.
 fn put_names<T: Named>(pen: &mut Pen<'_>, items: &[T], numbers: &[u32])
-    ensures { Writes pen.old (flat_map after_space (map (named (map T.called items.now)) numbers.now)) pen.new }
+    ensures writes { Writes pen.old (flat_map after_space (map (named (map T.called items.now)) numbers.now)) pen.new }
+    ensures near { pen.new.at ≤ pen.old.at + 9 * length numbers.now }
 {
     for k in numbers {
         put_name(pen, items, *k);
@@ -94,7 +101,8 @@ fn put_names<T: Named>(pen: &mut Pen<'_>, items: &[T], numbers: &[u32])
 
 // A rule of a side: its symbol, its target, its weight and its child states.
 pub fn put_rule(pen: &mut Pen<'_>, side: Side, symbols: &[Symbol], states: &[State], rule: &Rule)
-    ensures { Writes pen.old (ended (rule_line (side_of side) symbols.now states.now rule.now)) pen.new }
+    ensures writes { Writes pen.old (ended (rule_line (side_of side) symbols.now states.now rule.now)) pen.new }
+    ensures near { pen.new.at ≤ pen.old.at + 58 }
 {
     pen.byte(letter_of(side));
     put_name(pen, symbols, rule.symbol);

@@ -5,6 +5,8 @@ ghost use Rattle.std.specs.Prelude.{◌<◌, ◌^◌};
 
 use table::Table;
 
+mod blank;
+
 // That the weight is a `u32` is said to proofs, which bound the text of a rule by it.
 #[derive(Clone, Copy)]
 pub struct Rule {
@@ -13,15 +15,4 @@ pub struct Rule {
     pub weight: u32,
     pub children: Table<u32, 3>,
     ghost fits: { weight < 2 ^ 32 },
-}
-
-impl Default for Rule {
-    fn default() -> Rule {
-        Rule {
-            symbol: 0,
-            target: 0,
-            weight: 0,
-            children: Table::new(),
-        }
-    }
 }

@@ -5,6 +5,7 @@ ghost use Rattle.std.specs.Prelude.{◌^◌, ◌<◌, ◌≤◌};
 
 use words::Name;
 
+mod blank;
 mod children;
 mod named;
 
@@ -23,23 +24,4 @@ pub struct State {
     pub name: Name,
     pub weight: u32,
     ghost fits: { weight < 2 ^ 32 },
-}
-
-// What stands in the places of a table that are not taken yet.
-impl Default for Symbol {
-    fn default() -> Symbol {
-        Symbol {
-            name: Name::a(),
-            rank: 0,
-        }
-    }
-}
-
-impl Default for State {
-    fn default() -> State {
-        State {
-            name: Name::a(),
-            weight: 0,
-        }
-    }
 }

@@ -1,5 +1,5 @@
 // What a pen writes.
-ghost use Rattle.std.specs.Prelude.{◌≡◌, [], ◌∷◌, decimal};
+ghost use Rattle.std.specs.Prelude.{◌≡◌, ◌+◌, ◌≤◌, [], ◌∷◌, decimal};
 ghost use Rattle.words.specs.Puts.{Writes};
 ghost use Rattle.words.specs.Spelled.{spelled};
 
@@ -13,14 +13,32 @@ impl<'a> Pen<'a> {
         ensures holds { result.out.now ≡ out.old }
         ensures start { result.at ≡ 0 }
     {
-        Pen { out, at: 0 }
+        Pen::at(out, 0)
+    }
+
+    // A pen at a place of the buffer, be it past its end.
+    pub fn at(out: &'a mut [u8], at: usize) -> Pen<'a>
+        ensures same_buffer { result.out.ghost_name ≡ out.entry.ghost_name }
+        ensures holds { result.out.now ≡ out.old }
+        ensures start { result.at ≡ at }
+    {
+        Pen { out, at }
     }
 
     // The place that comes next.
     pub fn place(&self) -> usize
         ensures { result ≡ self.now.at }
     {
-        self.at
+        self.at // where it writes next
+    }
+
+    // Goes to another place, before or after its own.
+    pub fn go_to(&mut self, at: usize)
+        ensures same_buffer { self.new.out.ghost_name ≡ self.old.out.ghost_name }
+        ensures holds { self.new.out.now ≡ self.old.out.now }
+        ensures place { self.new.at ≡ at }
+    {
+        self.at = at;
     }
 
     // Writes a byte.
@@ -44,7 +62,8 @@ impl<'a> Pen<'a> {
 
     // Writes `n` in decimal.
     pub fn number(&mut self, n: u32)
-        ensures { Writes self.old (decimal n) self.new }
+        ensures writes { Writes self.old (decimal n) self.new }
+        ensures near { self.new.at ≤ self.old.at + 10 }
     {
         if n >= 10 {
             self.number(n / 10);
@@ -54,7 +73,8 @@ impl<'a> Pen<'a> {
 
     // Writes the name.
     pub fn name(&mut self, name: &Name)
-        ensures { Writes self.old (spelled name.now) self.new }
+        ensures writes { Writes self.old (spelled name.now) self.new }
+        ensures near { self.new.at ≤ self.old.at + 8 }
     {
         self.bytes(name.spelling());
     }

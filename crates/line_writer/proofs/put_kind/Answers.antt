@@ -6,13 +6,13 @@ use Rattle.line_writer.proofs.Writes.{line_is}
 use Rattle.line_writer.proofs.put_kind.Goals as goal
 use Rattle.line_writer.proofs.put_kind.Goals.{in-Residues, in-Bytes}
 
-pub returns : goal.returns
-returns c =
+pub returns-clause-writes : goal.returns-clause-writes
+returns-clause-writes c =
     elim c.match-kind.branch [
       | in-Residues w ↦
           bytes_are (line_is (codes "prime") (decimal w.in-Residues.p ∷ decimal c.args.count ∷ []) ∙ ap (λ k. ended (names_field k c.args.count)) (sym w.in-Residues.is))
-          (w.bytes.ensures then w.number.ensures then (rw w.pen-is at c.put_last.ensures))
+          (w.bytes.ensures then w.number.ensures.writes then (rw w.pen-is at c.put_last.ensures.writes))
       | in-Bytes w ↦
           bytes_are (line_is (codes "byte") (codes "-" ∷ decimal c.args.count ∷ []) ∙ ap (λ k. ended (names_field k c.args.count)) (sym w.in-Bytes.is))
-          (w.bytes-in-Bytes.ensures then (rw w.pen-is at c.put_last.ensures))
+          (w.bytes-in-Bytes.ensures then (rw w.pen-is at c.put_last.ensures.writes))
     ]

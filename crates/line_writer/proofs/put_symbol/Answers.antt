@@ -3,5 +3,5 @@ use Rattle.words.proofs.Puts.{◌then◌, bytes_are}
 use Rattle.line_writer.proofs.Writes.{line_is}
 use Rattle.line_writer.proofs.put_symbol.Goals as goal
 
-pub returns : goal.returns
-returns c = bytes_are (line_is _ (decimal c.args.symbol.now.rank ∷ [])) (c.name.ensures then c.put_last.ensures)
+pub returns-clause-writes : goal.returns-clause-writes
+returns-clause-writes c = bytes_are (line_is _ (decimal c.args.symbol.now.rank ∷ [])) (c.name.ensures.writes then c.put_last.ensures.writes)

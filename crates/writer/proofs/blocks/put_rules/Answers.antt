@@ -17,7 +17,7 @@ loop-rule-preserved c =
     let ts = states_of c.part-part.result.now in
     let u = rule_model c.rule-item.result in
     next_item ended (λ r. rule_by d ss ts (rule_model r)) _ c.loop-rule.rule-index _ c.loop-rule-test.true c.rule-item.is c.loop-rule.invariant
-    (bytes_are (ap (λ xs. ended (rule_by d (map symbol_of xs) (map state_of c.states.result.now) u)) c.symbols.ensures.are ∙ ap (λ xs. ended (rule_by d ss xs u)) c.states.ensures.holds) c.put_rule.ensures)
+    (bytes_are (ap (λ xs. ended (rule_by d (map symbol_of xs) (map state_of c.states.result.now) u)) c.symbols.ensures.are ∙ ap (λ xs. ended (rule_by d ss xs u)) c.states.ensures.holds) c.put_rule.ensures.writes)
 
 pub returns : goal.returns
 returns c =

@@ -10,7 +10,7 @@ use Rattle.writer.proofs.blocks.put_states.Goals as goal
 
 pub loop-state-preserved : goal.loop-state-preserved
 loop-state-preserved c =
-    next_item ended (state_line (side_of c.args.side)) _ c.loop-state.state-index _ c.loop-state-test.true c.state-item.is c.loop-state.invariant c.put_state.ensures
+    next_item ended (state_line (side_of c.args.side)) _ c.loop-state.state-index _ c.loop-state-test.true c.state-item.is c.loop-state.invariant c.put_state.ensures.writes
 
 pub returns : goal.returns
 returns c =

@@ -8,7 +8,7 @@ use Rattle.writer.proofs.blocks.put_symbols.Goals as goal
 
 pub loop-symbol-preserved : goal.loop-symbol-preserved
 loop-symbol-preserved c =
-    next_item ended symbol_line _ c.loop-symbol.symbol-index _ c.loop-symbol-test.true c.symbol-item.is c.loop-symbol.invariant c.put_symbol.ensures
+    next_item ended symbol_line _ c.loop-symbol.symbol-index _ c.loop-symbol-test.true c.symbol-item.is c.loop-symbol.invariant c.put_symbol.ensures.writes
 
 pub returns : goal.returns
 returns c =
