@@ -26,7 +26,8 @@ impl Basis {
         }
     }
 
-    // Keeps the vector exactly where it is no sum of multiples of those kept before, and says whether it did.
+    // Keeps the vector exactly where it is no sum of multiples of those kept before, and says whether it did: a plain answer, as
+    // a set's `insert` gives, and no failure.
     pub fn insert<F: Field>(&mut self, f: &F, vector: &[u32]) -> bool
         requires fits { Insertable (F.Field.model f.now) self.old vector.now }
         ensures { Inserts (F.Field.model f.now) self.old vector.now result self.new }

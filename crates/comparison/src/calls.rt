@@ -34,7 +34,7 @@ impl<F: Field> Comparison<F> {
         self.state.symbol(rank)
     }
 
-    // Gives a rule to a side: 0 is A, 1 is B.
+    // Gives a rule to a side: 0 is A, 1 is B. Here and below a call takes plain numbers and slices, of any value and length.
     pub fn rule(
         &mut self,
         side: u32,

@@ -1,4 +1,5 @@
-// A comparison holds its phase, and the state that its calls declare.
+// A comparison holds its phase, and the state that its calls declare. One type for all phases, since a call in the wrong phase is
+// refused by a number.
 use engine::State;
 use field::Field;
 use session::Phase;

@@ -21,6 +21,7 @@ pub struct Pair<F: Field> {
     ghost no_root: { (x : ℕ) → x < (F.Field.model base).size → Root (F.Field.model base) u v x → ⊥ },
 }
 
+// By hand, since neither is derived over the ghost fields of a generic struct.
 impl<F: Field + Copy> Clone for Pair<F> {
     ghost is_clone = { λ x y. y ≡ x };
 

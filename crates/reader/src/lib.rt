@@ -31,6 +31,7 @@ pub fn read(text: &[u8]) -> Result<Draft, Fault>
             line: 0,
         });
     }
+    // A loop by what `cut` leaves: what follows the last line feed is no line, and its number is wanted after the loop.
     let mut reader = Reader::new();
     let mut rest = text;
     let mut line: u32 = 1;

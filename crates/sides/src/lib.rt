@@ -6,4 +6,6 @@ mod setting;
 mod symbols;
 mod weighed;
 
+pub use giving::{give_final, give_rule};
 pub use setting::Setting;
+pub use weighed::weigh_in;

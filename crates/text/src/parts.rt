@@ -1,7 +1,7 @@
 // The parts of a record.
 ghost use Rattle.std.specs.Prelude.{◌≡◌, map};
 ghost use Rattle.field.specs.Algebra.{Lawful};
-ghost use Rattle.shapes.specs.Shapes.{algebra};
+ghost use Rattle.shapes.specs.Shapes.{ValidShape, algebra};
 ghost use Rattle.format.specs.Records.{field_of, part};
 ghost use Rattle.lines.specs.Recognized.{side_of};
 ghost use Rattle.rules.specs.Rules.{rule_model};
@@ -18,6 +18,7 @@ impl Record {
     // The field.
     pub fn field(&self) -> Shape
         ensures is { algebra result ≡ field_of (declared self.now) }
+        ensures valid { ValidShape result }
         ensures lawful { Lawful (algebra result) }
     {
         *self.draft.field()

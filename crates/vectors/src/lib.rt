@@ -10,7 +10,7 @@ use table::Table;
 
 mod calls;
 
-// Vectors of so many elements each, in the first places of the rows.
+// Vectors of so many elements each, in the first places of the rows: one width for all, in fixed memory.
 #[derive(Clone, Copy)]
 pub struct Vectors {
     rows: Table<[u32; 12], 64>,

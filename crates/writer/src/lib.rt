@@ -34,7 +34,7 @@ pub fn put_record(out: &mut [u8], d: &Draft) -> usize
 }
 
 // Writes the text and answers its length. A buffer that is too short is left as it was, and the
-// length that the text needs is the error.
+// length that the text needs is the error, a plain number that a caller can make room by.
 pub fn write(d: &Draft, out: &mut [u8]) -> Result<usize, usize>
     ensures { MatchResult result (Holds (text_of (record_of d.now)) out.old out.new) (TooShort (text_of (record_of d.now)) out.old out.new) }
 {
