@@ -7,7 +7,7 @@ ghost use Rattle.std.specs.Prelude.{◌<◌};
 use field::Field;
 use gf256::Byte;
 use prime::Prime;
-use quadratic::extend;
+use quadratic::{Pair, extend};
 use std::{fmt, io};
 use tally::Tally;
 use worked::perform::perform;
@@ -60,7 +60,22 @@ impl<P: Print> Cases<'_, P> {
         Ok(())
     }
 
-    // Runs rows in an extension of the base; where there is no such field that counts as one wrong case.
+    // An extension of the base; where there is no such field that counts as one wrong case.
+    fn extended<F: Field + Drop>(
+        &mut self,
+        name: &str,
+        base: F,
+        step: Step,
+    ) -> io::Result<Option<Pair<F>>> {
+        let pair = extend(base, step.u, step.v);
+        if pair.is_none() {
+            self.tally.note(false);
+            println!(self.rt; "{name}: no field")?;
+        }
+        Ok(pair)
+    }
+
+    // Runs rows in an extension of the base.
     fn run_over<F: Field + Drop>(
         &mut self,
         name: &str,
@@ -68,11 +83,10 @@ impl<P: Print> Cases<'_, P> {
         step: Step,
         rows: &[Row],
     ) -> io::Result<()> {
-        let Some(pair) = extend(base, step.u, step.v) else {
-            self.tally.note(false);
-            return println!(self.rt; "{name}: no field");
-        };
-        self.run(name, &pair, rows)
+        if let Some(pair) = self.extended(name, base, step)? {
+            self.run(name, &pair, rows)?;
+        }
+        Ok(())
     }
 
     // The same in an extension of an extension.
@@ -83,11 +97,10 @@ impl<P: Print> Cases<'_, P> {
         steps: (Step, Step),
         rows: &[Row],
     ) -> io::Result<()> {
-        let Some(pair) = extend(base, steps.0.u, steps.0.v) else {
-            self.tally.note(false);
-            return println!(self.rt; "{name}: no field");
-        };
-        self.run_over(name, pair, steps.1, rows)
+        if let Some(pair) = self.extended(name, base, steps.0)? {
+            self.run_over(name, pair, steps.1, rows)?;
+        }
+        Ok(())
     }
 
     fn primes(&mut self) -> io::Result<()> {
