@@ -8,7 +8,7 @@ use Rattle.words.specs.Words.{is_name, spaced}
 use Rattle.words.proofs.Names.{named}
 use Rattle.words.proofs.Numbers.{decimal_short}
 use Rattle.equivalence.specs.Automata.{Rule}
-use Rattle.format.specs.Lines.{Block, Side, Line, fields, steps, symbols, states, rules, A, B, opens, names_field, extends_by, declares_symbol, declares_state, gives_rule, heading, letter, line_fields, written, text_of_lines, Formed}
+use Rattle.format.specs.Lines.{Block, Side, Line, fields, steps, symbols, states, rules, A, B, opens, names_field, extends_by, declares_symbol, declares_state, gives_rule, heading, letter, line_fields, text_of_lines, Formed}
 use Rattle.format.specs.Records.{Symbol, State, Record, field_of, part, ValidRule, ValidPart, ValidRecord, rule_line, state_lines, rule_lines, lines_of, text_of}
 use Rattle.format.specs.Reading.{Draft, blank, after, Reads}
 

@@ -1,7 +1,7 @@
 -- The children of a rule: names parted by spaces.
 use Rattle.std.proofs.Common.{◌≡◌, ℕ, ◌<◌, Bool, true, false, List, [], ◌∷◌, length, decimal, Decides, sym, refl, ap, ◌∙◌, subst, arith, length-append}
 use Rattle.std.specs.Prelude.{◌==◌, MatchBool}
-use Rattle.std.specs.List.{slice_split, onto_first, AllByRecursion, AllWithin, HoldsAt}
+use Rattle.std.specs.List.{slice_split, onto_first, AllWithin, HoldsAt}
 use Rattle.std.proofs.ByRecursion.{All-from_get_or, All-get_or}
 use Rattle.std.proofs.lemmas.Bool.{both_ways}
 use Rattle.words.specs.Words.{is_name, spaced, Lacks, Cut, Number}

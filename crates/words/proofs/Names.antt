@@ -4,7 +4,7 @@ use denote.Struct.Props.{props}
 use mathlib.Core.HLevel.{is_prop→PathP}
 use Rattle.std.specs.List.{list_all, AllByRecursion, AllWithin}
 use Rattle.std.proofs.ByRecursion.{All-get_or, All-from_get_or, Decides-by_and}
-use Rattle.std.proofs.lemmas.Bool.{and_parts, and_from, or_left, leb-true, le-leb, both_ways}
+use Rattle.std.proofs.lemmas.Bool.{and_parts, or_left, leb-true, both_ways}
 use Rattle.std.proofs.lemmas.List.{length-take-le, take_at, drop_at, drop-replicate}
 use Rattle.std.specs.Prelude.{nat_le}
 use Rattle.words.specs.declared.name.Name.{Name}
@@ -33,12 +33,6 @@ named (b ∷ bs) h =
       first = p.0;
       rest = λ i less. All-get_or (λ x. inner x ≡ true) (b ∷ bs) i 0 less all;
     }
-
-pub name_from : (bs : List ℕ) → Named bs → is_name bs ≡ true
-name_from [] n = absurd (omega (arith, n.some))
-name_from (b ∷ bs) n =
-    let all = All-from_get_or (λ x. inner x ≡ true) (b ∷ bs) 0 n.rest in
-    and_from (small b) _ n.first (and_from (list_all inner bs) _ ((all_inner bs).1 all.1) (le-leb (length bs) 7 (omega (arith, n.short))))
 
 -- a byte that may not stand in a name does not
 pub name_lacks : (b : ℕ) → inner b ≡ false → (bs : List ℕ) → is_name bs ≡ true → Lacks b bs

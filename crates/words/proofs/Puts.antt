@@ -33,10 +33,6 @@ put_mostped out at most bs h =
       | inr l ↦ let e : min at most ≡ most = omega arith in rw (e, put_past out most bs h, put_past out at bs (omega arith))
     ]
 
--- nothing written
-pub nothing : (p : Pen) → Writes p [] p
-nothing p = record { same_buffer = refl; place = omega (arith, p.placed); put = refl }
-
 -- one write after another
 infixr 5 ◌then◌
 pub ◌then◌ : {a b c : Pen} {xs ys : List ℕ} → Writes a xs b → Writes b ys c → Writes a (xs ++ ys) c

@@ -11,7 +11,7 @@ use Rattle.words.proofs.Numbers.{decimal_short}
 use Rattle.shapes.specs.Shapes.{shape_kind, steps, named}
 use Rattle.shapes.specs.declared.shape.Shape.{Shape}
 use Rattle.shapes.specs.declared.shape.Shape.TheVariants.{Prime, Byte, PrimePair, BytePair, PrimeTower, ByteTower}
-use Rattle.format.specs.Lines.{Block, Side, fields, symbols, states, rules, A, B, Line, opens, names_field, extends_by, declares_symbol, declares_state, gives_rule, text_of_lines, Fits, kind_fits}
+use Rattle.format.specs.Lines.{Block, Side, fields, symbols, states, rules, A, B, opens, names_field, extends_by, declares_symbol, declares_state, Fits}
 use Rattle.format.specs.Lines as lines
 use Rattle.format.specs.Records.{part, symbol_names, state_names, rule_line, lines_of, text_of}
 use Rattle.format.proofs.Fields.{named_fits}
@@ -125,10 +125,10 @@ module _ (d : Draft) where
   symbols_narrow = (heading symbols, All-map Narrow _ _ (All-map _ symbol_of _ (everywhere _ symbol_narrow _)))
 
   both_states_narrow : AllByRecursion Narrow (state_block (record_of d))
-  both_states_narrow = (heading states, All-append Narrow _ _ (states_narrow A d.a) (states_narrow B d.b))
+  both_states_narrow = (heading states, All-append Narrow _ _ (states_narrow A d.parts.a) (states_narrow B d.parts.b))
 
   both_rules_narrow : AllByRecursion Narrow (rule_block (record_of d))
-  both_rules_narrow = (heading rules, All-append Narrow _ _ (rules_narrow A d.a refl) (rules_narrow B d.b refl))
+  both_rules_narrow = (heading rules, All-append Narrow _ _ (rules_narrow A d.parts.a refl) (rules_narrow B d.parts.b refl))
 
   all_narrow : AllByRecursion Narrow (lines_of (record_of d))
   all_narrow =
@@ -143,7 +143,7 @@ module _ (d : Draft) where
   lines_few : length (lines_of (record_of d)) ≤ 556
   lines_few =
       simp (length-append, length-map)
-      (omega (arith, few_steps d.field, length_items d.symbols, d.symbols.few, length_items d.a.states, d.a.states.few, length_items d.b.states, d.b.states.few, length_items d.a.rules, d.a.rules.few, length_items d.b.rules, d.b.rules.few))
+      (omega (arith, few_steps d.field, length_items d.symbols, d.symbols.few, length_items d.parts.a.states, d.parts.a.states.few, length_items d.parts.b.states, d.parts.b.states.few, length_items d.parts.a.rules, d.parts.a.rules.few, length_items d.parts.b.rules, d.parts.b.rules.few))
 
   pub text_short : length (text_of (record_of d)) ≤ 43368
   text_short = omega (arith, lines_short (lines_of (record_of d)) all_narrow, lines_few)

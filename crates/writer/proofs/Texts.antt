@@ -7,16 +7,13 @@ use Rattle.format.specs.Lines.{Line, text_of_lines}
 use Rattle.format.specs.Lines as lines
 use Rattle.format.specs.Records as records
 use Rattle.format.specs.Records.{part}
-use Rattle.equivalence.specs.Automata as automata
 use Rattle.shapes.specs.declared.shape.Kind.{Kind}
-use Rattle.rules.specs.Rules.{rule_model}
-use Rattle.rules.specs.declared.Rule.{Rule}
 use Rattle.drafts.specs.Drafts.{part_of, side_part}
 use Rattle.drafts.specs.declared.Draft.{Draft}
 use Rattle.lines.specs.Recognized.{side_of}
 use Rattle.side.specs.declared.Side.{Side}
 use Rattle.side.specs.declared.Side.TheVariants.{A, B}
-use Rattle.line_writer.specs.Writing.{ended, rule_by}
+use Rattle.line_writer.specs.Writing.{ended}
 use Rattle.writer.specs.Blocks.{field_block, rule_block, state_block, symbol_block}
 use Rattle.writer.specs.Declared.{Holds}
 use Rattle.drafts.specs.Drafts.{record_of}

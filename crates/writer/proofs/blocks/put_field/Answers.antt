@@ -1,7 +1,7 @@
 use Rattle.std.proofs.Common.{map, length, refl, ap, ◌∙◌, arith}
 use Rattle.format.specs.Lines.{text_of_lines}
 use Rattle.shapes.specs.Shapes.{shape_kind, steps}
-use Rattle.words.proofs.Puts.{nothing, ◌then◌, bytes_are, next_item, all_items}
+use Rattle.words.proofs.Puts.{◌then◌, bytes_are, next_item, all_items}
 use Rattle.line_writer.specs.Writing.{ended, step_line}
 use Rattle.writer.proofs.Texts.{kind_is}
 use Rattle.writer.proofs.blocks.put_field.Goals as goal

@@ -5,7 +5,7 @@ use Rattle.format.specs.Records.{part}
 use Rattle.lines.specs.Recognized.{side_of}
 use Rattle.rules.specs.Rules.{rule_model}
 use Rattle.tables.specs.Tables.{state_of, symbol_of, symbols_of}
-use Rattle.words.proofs.Puts.{nothing, bytes_are, next_item, all_items}
+use Rattle.words.proofs.Puts.{bytes_are, next_item, all_items}
 use Rattle.line_writer.specs.Writing.{ended, rule_by}
 use Rattle.writer.proofs.Texts.{lines_are, part_is}
 use Rattle.writer.proofs.blocks.put_rules.Goals as goal

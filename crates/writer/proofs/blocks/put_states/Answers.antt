@@ -3,7 +3,7 @@ use Rattle.drafts.specs.Drafts.{states_of}
 use Rattle.tables.specs.Tables.{state_of}
 use Rattle.format.specs.Lines.{declares_state, text_of_lines}
 use Rattle.lines.specs.Recognized.{side_of}
-use Rattle.words.proofs.Puts.{nothing, bytes_are, next_item, all_items}
+use Rattle.words.proofs.Puts.{bytes_are, next_item, all_items}
 use Rattle.line_writer.specs.Writing.{ended, state_line}
 use Rattle.writer.proofs.Texts.{lines_are, part_is}
 use Rattle.writer.proofs.blocks.put_states.Goals as goal

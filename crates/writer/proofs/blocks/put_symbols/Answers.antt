@@ -1,7 +1,7 @@
 use Rattle.std.proofs.Common.{map, ap, arith}
 use Rattle.tables.specs.Tables.{symbol_of}
 use Rattle.format.specs.Lines.{declares_symbol, text_of_lines}
-use Rattle.words.proofs.Puts.{nothing, ◌then◌, bytes_are, next_item, all_items}
+use Rattle.words.proofs.Puts.{◌then◌, bytes_are, next_item, all_items}
 use Rattle.line_writer.specs.Writing.{ended, symbol_line}
 use Rattle.writer.proofs.Texts.{lines_are}
 use Rattle.writer.proofs.blocks.put_symbols.Goals as goal
