@@ -4,8 +4,8 @@ ghost use Rattle.automaton.specs.Tables.{automaton_of, entry_of};
 ghost use Rattle.equivalence.specs.Automata.{Sound, states as many};
 ghost use Rattle.equivalence.specs.Valuing.{entry_vector};
 ghost use Rattle.field.specs.Algebra.{ops};
-ghost use Rattle.field.specs.Codes.{AllBelow};
-ghost use Rattle.vectors.specs.Tables.{vectors_of};
+ghost use Rattle.field.specs.Codes.{AllBelow, Codes};
+ghost use Rattle.vectors.specs.Tables.{vectors_of, width_of};
 ghost use Rattle.entry_vectors.specs.Combining.{Earlier, added};
 
 use crate::Valuation;
@@ -36,10 +36,22 @@ impl<'a, F: Field> Valuation<'a, F> {
         ensures automaton { result.automaton.now ≡ automaton.now }
         ensures vectors { vectors_of result.vectors ≡ [] }
     {
+        Self::over(field, automaton, Vectors::empty(automaton.state_count()))
+    }
+
+    // The vectors given, of codes of the field, with an element for each state.
+    pub fn over(field: &'a F, automaton: &'a Automaton, vectors: Vectors) -> Valuation<'a, F>
+        requires sound { Sound (F.Field.model field.now).size (automaton_of automaton.now) }
+        requires codes { Codes (F.Field.model field.now).size (vectors_of vectors) }
+        requires wide { width_of vectors ≡ many (automaton_of automaton.now) }
+        ensures field { result.field.now ≡ field.now }
+        ensures automaton { result.automaton.now ≡ automaton.now }
+        ensures vectors { result.vectors ≡ vectors }
+    {
         Valuation {
             field,
             automaton,
-            vectors: Vectors::empty(automaton.state_count()),
+            vectors,
         }
     }
 
