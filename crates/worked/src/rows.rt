@@ -24,7 +24,8 @@ impl fmt::Display for Op {
     }
 }
 
-// An operation at two codes (the second is 0 where it takes one) and its result, absent where there is none.
+// An operation at two codes and its result, absent where there is none. It is a table of plain numbers, printed as it stands:
+// the second code is 0 where the operation takes one, and an operation with its own codes would make the rows no plainer.
 #[derive(Clone, Copy)]
 pub struct Row(pub Op, pub u32, pub u32, pub Option<u32>);
 
