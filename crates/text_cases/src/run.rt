@@ -1,7 +1,8 @@
 // A run of cases.
 use tally::Tally;
 
-// Where the cases are printed, and how many there were.
+// Where the cases are printed, and how many there were. `cases` has a struct of these two fields too: one of `tally` could
+// not have this program's methods (no `impl` for a type of another crate), and functions that are passed it are no plainer.
 #[derive(Drop)]
 pub struct Run<'a> {
     pub rt: &'a HostRuntime,

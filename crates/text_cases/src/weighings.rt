@@ -11,11 +11,11 @@ use gf256::Byte;
 use prime::Prime;
 use quadratic::extend;
 use refusals::Refusal;
-use std::alloc::{AllocError, Global};
+use std::alloc::Global;
 use std::fmt;
 
 // The entries of a tree.
-fn entries(heap: Global, tree: &GivenTree) -> Result<Vec<Entry>, AllocError> {
+fn entries(heap: Global, tree: &GivenTree) -> anyhow::Result<Vec<Entry>> {
     let mut entries = Vec::new(heap);
     for node in tree.1 {
         let (symbol, x, y, z) = *node;
@@ -25,7 +25,7 @@ fn entries(heap: Global, tree: &GivenTree) -> Result<Vec<Entry>, AllocError> {
         })?;
     }
     for _ in 0..tree.2 {
-        let last = u32::try_from(entries.len()).unwrap_or(0);
+        let last = u32::try_from(entries.len())?;
         entries.push(Entry {
             symbol: 2,
             children: [last, last, 0],
@@ -124,6 +124,19 @@ fn trees(c: &Comparison<Prime>, long: &[Entry]) -> [Edge; 7] {
     ]
 }
 
+// The weight of a tree as it is printed: a dash where the tree was refused.
+#[derive(Clone, Copy, PartialEq, Eq)]
+struct Weight(Option<u32>);
+
+impl fmt::Display for Weight {
+    fn fmt<W: fmt::Write>(&self, f: &mut fmt::Formatter<W>) -> fmt::Result {
+        match self.0 {
+            Some(weight) => write!(f, "{weight}"),
+            None => write!(f, "-"),
+        }
+    }
+}
+
 impl Run<'_> {
     fn weighed<F: Field + Drop>(
         &mut self,
@@ -139,12 +152,13 @@ impl Run<'_> {
         declare(&mut c, row.0);
         for (tree, values) in TREES.iter().zip(row.1.iter()) {
             let list = entries(self.rt.alloc(), tree)?;
-            let a = c.weigh(0, &list).unwrap_or(u32::MAX);
-            let b = c.weigh(1, &list).unwrap_or(u32::MAX);
+            let a = Weight(c.weigh(0, &list).ok());
+            let b = Weight(c.weigh(1, &list).ok());
             let what = tree.0;
             let (x, y) = *values;
             println!(self.rt; "{name} weigh {what}: expected {x} {y}, got {a} {b}")?;
-            self.tally.note(a == x && b == y);
+            self.tally
+                .note(a == Weight(Some(x)) && b == Weight(Some(y)));
         }
         Ok(())
     }
