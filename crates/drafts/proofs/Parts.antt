@@ -18,6 +18,6 @@ pub replaced :
     (d : Draft) (x : Side) (p : Place) (h : d.announced ≤ 2) (m : Part) (P : records.Part)
     → part_of m ≡ P
     → let w = with_part (draft_of d p) (side_of x) P in
-      draft_of (record { field = d.field; announced = d.announced; symbols = d.symbols; parts = with_at d.parts x m; two = h }) w.place ≡ w
+    draft_of (record { field = d.field; announced = d.announced; symbols = d.symbols; parts = with_at d.parts x m; two = h }) w.place ≡ w
 replaced d A p h m P e = ap (λ Q. with_part (draft_of d p) (side_of A) Q) e
 replaced d B p h m P e = ap (λ Q. with_part (draft_of d p) (side_of B) Q) e

@@ -3,8 +3,8 @@ ghost use Rattle.engine.specs.Open.{opened, sides};
 ghost use Rattle.session.specs.Validity.{Valid};
 ghost use Rattle.std.proofs.Props.{props};
 
-use field::Field;
 use automaton::Automaton;
+use field::Field;
 use side::Both;
 use sides::Setting;
 

@@ -17,10 +17,9 @@ returns c p =
     let room = subst (λ (q : records.Part). length q.states < 12) old (a.room.0 refl) in
     let own = ap part_of c.part.ensures ∙ part_is d c.args.side p in
     let new : Undeclared (state_names (part_of c.part.result.now).states) c.args.name.now = search rules in
-    let made : spelled c.unwrap-name.result ≡ c.args.name.now = search rules in
-    (
+    let made : spelled c.unwrap-name.result ≡ c.args.name.now = search rules in (
       (subst (λ (q : records.Part). Undeclared (state_names q.states) c.args.name.now) own new, (search rules, (room, tt))),
       replaced d c.args.side p d.two _ _
-      (ap₂ (λ s r. record { states = s; rules = r })
-      (a.added ∙ ap₂ (λ ss s. ss ++ (s ∷ [])) (ap (λ (q : records.Part). q.states) old) (ap (λ n. record { name = n; final = c.args.weight }) made)) (ap (λ (q : records.Part). q.rules) old)),
+          (ap₂ (λ s r. record { states = s; rules = r })
+          (a.added ∙ ap₂ (λ ss s. ss ++ (s ∷ [])) (ap (λ (q : records.Part). q.states) old) (ap (λ n. record { name = n; final = c.args.weight }) made)) (ap (λ (q : records.Part). q.rules) old)),
     )
