@@ -1,82 +1,48 @@
--- The layout of an entry by its three places, and of a list by its entries.
-use Rattle.std.proofs.Common.{◌≡◌, ℕ, zero, suc, ◌+◌, ◌-◌, ◌<◌, ◌≤◌, List, [], ◌∷◌, ◌++◌, map, length, get_or, take, drop, sym, ap, ◌∙◌, subst, arith, length-drop, length-take}
+-- The layout of an entry by its two parts, and of a list by its entries.
+use Rattle.std.proofs.Common.{◌≡◌, ℕ, suc, ◌≤◌, ◌==◌, Bool, true, false, Decides, List, [], ◌∷◌, map, length, take, drop, sym, subst, add-one, arith}
 use lib.ListN.{length-map}
-use Rattle.std.proofs.ByRecursion.{All-get_or, All-from_get_or}
-use Rattle.std.proofs.lemmas.List.{get_or-drop, get_or-map, get_or-take, length-take-le, map_more, take_all}
+use Rattle.std.specs.List.{AllByRecursion, enumerate_from}
+use Rattle.std.proofs.lemmas.Bool.{both_ways}
 use Rattle.equivalence.specs.Trees.{Declared, rank}
 use Rattle.equivalence.specs.Entries as entries
 use Rattle.equivalence.specs.Entries.{LaidOut, LaidOutFrom, WellFormed}
-use Rattle.automaton.specs.declared.tables.Entry.{Entry}
-use Rattle.automaton.specs.Tables.{Child, entry_of}
+use Rattle.automaton.specs.declared.Entry.{Entry}
+use Rattle.automaton.specs.Tables.{entry_of}
 
-module _ (ranks : List ℕ) (n : ℕ) (e : entries.Entry) (three : length e.children ≡ 3) where
-  abbrev k : ℕ
-  k = rank ranks e.symbol
+-- An entry whose first children, as many as the rank, and whose others were each looked at.
+module _ (ranks : List ℕ) (n : ℕ) (e : entries.Entry) (three : length e.children ≡ 3) (declared : Declared ranks e.symbol) (r : Bool)
+    (named : Decides r (AllByRecursion (λ c. (1 ≤ c) × (c ≤ n)) (take (rank ranks e.symbol) e.children))) where
+  pub laid_from_parts : (s : Bool) → r ≡ true → Decides s (AllByRecursion (λ c. c ≡ 0) (drop (rank ranks e.symbol) e.children)) → Decides s (LaidOut ranks n e)
+  laid_from_parts s is rest = (
+    λ t. record { declared = declared; three = three; named = named.0 is; rest = rest.0 t },
+    λ h. rest.1 h.rest,
+  )
 
-  pub laid_from_places : Declared ranks e.symbol → ((i : ℕ) → i < 3 → Child k n i (get_or e.children i 0)) → LaidOut ranks n e
-  laid_from_places declared fit =
-      let cs = e.children in
-      let l = length-take k cs in
-      let m = length-drop k cs in
-      record {
-        declared = declared;
-        three = three;
-        named =
-            All-from_get_or (λ c. (1 ≤ c) × (c ≤ n)) (take k cs) 0
-            (λ i h. let g = get_or-take k cs i 0 (omega arith) in
-            let f = (fit i (omega arith)).named (omega arith) in
-            (omega arith, omega arith));
-        rest =
-            All-from_get_or (λ c. c ≡ 0) (drop k cs) 0
-            (λ i h. get_or-drop k cs i 0 ∙ (fit (k + i) (omega arith)).rest (omega arith));
-      }
+  pub unlaid_from_parts : r ≡ false → Decides r (LaidOut ranks n e)
+  unlaid_from_parts is = (λ t. absurd (both_ways r is t), λ h. named.1 h.named)
 
-  pub place_from_laid : LaidOut ranks n e → (i : ℕ) → i < 3 → Child k n i (get_or e.children i 0)
-  place_from_laid h i less =
-      let cs = e.children in
-      let l = length-take k cs in
-      let m = length-drop k cs in
-      record {
-        named = λ in'.
-            let g = get_or-take k cs i 0 in' in
-            let a = All-get_or _ (take k cs) i 0 (omega arith) h.named in
-            (omega arith, omega arith);
-        rest = λ past.
-            let at : k + (i - k) ≡ i = omega arith in
-            ap (λ j. get_or cs j 0) (sym at)
-            ∙ sym (get_or-drop k cs (i - k) 0)
-            ∙ All-get_or (λ c. c ≡ 0) (drop k cs) (i - k) 0 (omega arith) h.rest;
-      }
-
+-- The entries of a list, each with the number of those before it.
 module _ (ranks : List ℕ) where
-  laid_push : (n m : ℕ) (es : List entries.Entry) (e : entries.Entry) → LaidOutFrom ranks n es → m ≡ n + length es → LaidOut ranks m e → LaidOutFrom ranks n (es ++ (e ∷ []))
-  laid_push n m [] e h at k =
-      let same : m ≡ n = omega arith in
-      (subst (λ j. LaidOut ranks j e) same k, tt)
-  laid_push n m (d ∷ es) e h at k = (h.0, laid_push (suc n) m es e h.1 (omega arith) k)
+  abbrev pub LaidAt : ℕ × Entry → Type 0
+  LaidAt p = LaidOut ranks p.0 (entry_of p.1)
 
-  laid_at : (n m : ℕ) (es : List entries.Entry) (i : ℕ) (d : entries.Entry) → LaidOutFrom ranks n es → i < length es → m ≡ n + i → LaidOut ranks m (get_or es i d)
-  laid_at n m [] i d h less at = absurd (omega arith)
-  laid_at n m (e ∷ es) zero d h less at =
-      let same : n ≡ m = omega arith in
-      subst (λ j. LaidOut ranks j e) same h.0
-  laid_at n m (e ∷ es) (suc i) d h less at = laid_at (suc n) m es i d h.1 (omega arith) (omega arith)
+  laid_each : (n : ℕ) (xs : List Entry) → AllByRecursion LaidAt (enumerate_from n xs) → LaidOutFrom ranks n (map entry_of xs)
+  laid_each n [] h = tt
+  laid_each n (x ∷ xs) h =
+      (h.0, laid_each (suc n) xs (subst (λ m. AllByRecursion LaidAt (enumerate_from m xs)) (add-one n) h.1))
 
-  module _ (xs : List Entry) (i : ℕ) (x : Entry) (less : i < length xs) (is : x ≡ get_or xs i x) where
-    pub laid_entry : LaidOutFrom ranks 0 (map entry_of xs) → LaidOut ranks i (entry_of x)
-    laid_entry h =
-        let l = length-map xs entry_of in
-        let e : get_or (map entry_of xs) i (entry_of x) ≡ entry_of x = get_or-map entry_of xs i x (entry_of x) less ∙ ap entry_of (sym is) in
-        subst (LaidOut ranks i) e (laid_at 0 i (map entry_of xs) i (entry_of x) h (omega arith) (omega arith))
+  each_laid : (n : ℕ) (xs : List Entry) → LaidOutFrom ranks n (map entry_of xs) → AllByRecursion LaidAt (enumerate_from n xs)
+  each_laid n [] h = tt
+  each_laid n (x ∷ xs) h =
+      (h.0, subst (λ m. AllByRecursion LaidAt (enumerate_from m xs)) (sym (add-one n)) (each_laid (suc n) xs h.1))
 
-    pub laid_more : LaidOutFrom ranks 0 (map entry_of (take i xs)) → LaidOut ranks i (entry_of x) → LaidOutFrom ranks 0 (map entry_of (take (i + 1) xs))
-    laid_more h k =
-        let l = length-map (take i xs) entry_of in
-        let m = length-take-le i xs (omega arith) in
-        let e : map entry_of (take (i + 1) xs) ≡ map entry_of (take i xs) ++ (entry_of x ∷ []) = map_more entry_of xs i x less ∙ ap (λ y. map entry_of (take i xs) ++ (entry_of y ∷ [])) (sym is) in
-        subst (LaidOutFrom ranks 0) (sym e) (laid_push 0 i (map entry_of (take i xs)) (entry_of x) h (omega arith) k)
+  pub well_formed_from_each : (xs : List Entry) (r : Bool) → 1 ≤ length xs → length xs ≤ 64 → Decides r (AllByRecursion LaidAt (enumerate_from 0 xs)) → Decides r (WellFormed ranks (map entry_of xs) × (length xs ≤ 64))
+  well_formed_from_each xs r some few h =
+      let l = length-map xs entry_of in (
+        λ t. (record { some = omega arith; entries = laid_each 0 xs (h.0 t) }, few),
+        λ w. h.1 (each_laid 0 xs w.0.entries),
+      )
 
-  pub well_formed_all : (xs : List Entry) (i : ℕ) → 1 ≤ length xs → length xs ≤ i → LaidOutFrom ranks 0 (map entry_of (take i xs)) → WellFormed ranks (map entry_of xs)
-  well_formed_all xs i some past h =
-      let l = length-map xs entry_of in
-      record { some = omega arith; entries = subst (λ ys. LaidOutFrom ranks 0 (map entry_of ys)) (take_all i xs past) h }
+pub some_entry : (xs : List Entry) (b : Bool) → b ≡ (length xs == 0) → b ≡ false → 1 ≤ length xs
+some_entry [] b is off = absurd (both_ways b off is)
+some_entry (x ∷ xs) b is off = omega arith

@@ -1,8 +1,7 @@
 -- Elimination by the rows of a basis. Assumes nothing.
-use Rattle.std.proofs.Common.{◌≡◌, ℕ, ◌+◌, ◌<◌, ◌≤◌, true, false, List, [], ◌∷◌, ◌++◌, map, length, get_or, take, Some, sym, refl, ap, ◌∙◌, subst, ap₂, subst₂, arith}
+use Rattle.std.proofs.Common.{◌≡◌, ℕ, ◌+◌, ◌<◌, true, false, List, [], ◌∷◌, ◌++◌, map, length, get_or, take, Some, sym, refl, ap, ◌∙◌, subst, ap₂, subst₂, arith}
 use Rattle.std.specs.List.{AllByRecursion}
-use Rattle.std.proofs.lemmas.List.{length-map, length_push, length-take-le, take-take}
-use Rattle.std.proofs.ByRecursion.{All-take}
+use Rattle.std.proofs.lemmas.List.{length-map, length_push}
 use Rattle.field.specs.Algebra.{Algebra, Lawful, ops}
 use Rattle.equivalence.specs.Spans.{SumOfMultiples}
 use Rattle.equivalence.proofs.Elimination as elimination
@@ -24,6 +23,7 @@ use Rattle.elimination.specs.Rows.{row_of, Clears}
 use Rattle.elimination.specs.declared.Row.{Row}
 use Rattle.basis.specs.Bases.{Echelon, pivoted_rows, rows_of, BasisFor, Insertable, Inserts}
 use Rattle.basis.specs.declared.Basis.{Basis}
+use Rattle.table.specs.Items.{items_of}
 
 -- a basis as elimination has it
 to_echelon : (A : Algebra) (n : ℕ) (rows : List ((p : ℕ) × List ℕ)) → Echelon n rows → elimination.Echelon (ops A) code_at n rows
@@ -74,29 +74,28 @@ clears A m n (r ∷ rows) e h k =
     ((k.0, subst (λ i. VectorOver A n (take i r.codes)) e h.0), clears A m n rows e h.1 k.3)
 
 pub insertable_clears :
-    (A : Algebra) (b : Basis) (v copy : List ℕ) (m : ℕ)
+    (A : Algebra) (b : Basis) (rows : List Row) (v copy : List ℕ)
+    → rows ≡ items_of b.rows
     → copy ≡ v
-    → m ≤ b.count
     → Insertable A b v
-    → AllByRecursion (Clears A (length copy)) (take m b.rows)
-insertable_clears A b v copy m e l s =
+    → AllByRecursion (Clears A (length copy)) rows
+insertable_clears A b rows v copy are copied s =
     let h = s.2 in
-    let all = clears A b.width s.0 (take b.count b.rows) h.width h.rows h.echelon in
-    subst₂ (λ n rows. AllByRecursion (Clears A n) rows) (sym (ap length e ∙ s.3.0)) (take-take m b.count b.rows l)
-    (All-take (Clears A s.0) m (take b.count b.rows) all)
+    subst₂ (λ n xs. AllByRecursion (Clears A n) xs) (sym (ap length copied ∙ s.3.0)) (sym are)
+    (clears A b.width s.0 (items_of b.rows) h.width h.rows h.echelon)
 
 -- What is left of a copy of a vector, w, decides whether the vector is kept.
 module _
-    (A : Algebra) (L : Lawful A) (b : Basis) (v copy w : List ℕ) (copied : copy ≡ v)
-    (reads : w ≡ reduced_by A (length copy) (map (row_of (length copy)) (take b.count b.rows)) copy) where
+    (A : Algebra) (L : Lawful A) (b : Basis) (rows : List Row) (v copy w : List ℕ) (are : rows ≡ items_of b.rows) (copied : copy ≡ v)
+    (reads : w ≡ reduced_by A (length copy) (map (row_of (length copy)) rows) copy) where
   module _ (D : ℕ) (kept : List (List ℕ)) (h : BasisFor A D kept b) (k : VectorOver A D v) where
     E : EchelonCodes A D (pivoted_rows b)
     E = echelon_of A D kept b h
 
     reduces : w ≡ reduced_by A D (pivoted_rows b) v
     reduces =
-        reads ∙ ap (λ x. reduced_by A (length x) (map (row_of (length x)) (take b.count b.rows)) x) copied
-        ∙ ap₂ (λ n m. reduced_by A n (map (row_of m) (take b.count b.rows)) v) k.0 (k.0 ∙ sym h.width)
+        reads ∙ ap₂ (λ xs x. reduced_by A (length x) (map (row_of (length x)) xs) x) are copied
+        ∙ ap₂ (λ n m. reduced_by A n (map (row_of m) (items_of b.rows)) v) k.0 (k.0 ∙ sym h.width)
 
     long : length w ≡ D
     long = ap length reduces ∙ (reduced_coded A L D (pivoted_rows b) v E.coded k).0
@@ -163,18 +162,16 @@ module _
         → pivoted_rows after ≡ pivoted_rows b ++ ((p, codes) ∷ [])
         → codes ≡ u
         → Inserts A b v true after
-    taken_in after codes e rows same D kept h k = (
+    taken_in after codes e more same D kept h k = (
       apart D kept h k p u n,
       room D kept h k p u n,
-      keeps D kept h k p u n after e (rows ∙ ap (λ x. pivoted_rows b ++ ((p, x) ∷ [])) same),
+      keeps D kept h k p u n after e (more ∙ ap (λ x. pivoted_rows b ++ ((p, x) ∷ [])) same),
     )
 
     -- so there is room for its row
-    pub row_fits : Insertable A b v → b.count < 24
+    pub row_fits : Insertable A b v → length (items_of b.rows) < 24
     row_fits s =
-        let D = s.0 in
-        let few = room D s.1 s.2 s.3 p u n in
-        let same = counts D s.1 s.2 s.3 p u n in
-        let long = length-map (take b.count b.rows) (row_of b.width) in
-        let most = length-take-le b.count b.rows (omega arith) in
-        let w = s.2.width in omega (arith, few, same, long, most, w)
+        let few = room s.0 s.1 s.2 s.3 p u n in
+        let same = counts s.0 s.1 s.2 s.3 p u n in
+        let long = length-map (items_of b.rows) (row_of b.width) in
+        let w = s.2.width in omega (arith, few, same, long, w)

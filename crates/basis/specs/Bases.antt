@@ -1,14 +1,15 @@
 -- What a basis stands for.
-use Rattle.std.specs.Prelude.{◌≡◌, ℕ, ◌<◌, Bool, true, false, List, [], ◌∷◌, ◌++◌, map, length, take, slice_index}
+use Rattle.std.specs.Prelude.{◌≡◌, ℕ, ◌<◌, Bool, true, false, List, [], ◌∷◌, ◌++◌, map, length, slice_index}
 use Rattle.std.specs.List.{AllByRecursion}
 use Rattle.field.specs.Algebra.{Algebra}
 use Rattle.equivalence.specs.Spans.{SumOfMultiples}
 use Rattle.elimination.specs.Vectors.{VectorOver}
 use Rattle.elimination.specs.Rows.{row_of}
+use Rattle.table.specs.Items.{items_of}
 use Rattle.basis.specs.declared.Basis.{Basis}
 
 abbrev pub pivoted_rows : Basis → List ((p : ℕ) × List ℕ)
-pivoted_rows b = map (row_of b.width) (take b.count b.rows)
+pivoted_rows b = map (row_of b.width) (items_of b.rows)
 
 abbrev pub rows_of : Basis → List (List ℕ)
 rows_of b = map (λ x. x.1) (pivoted_rows b)

@@ -1,7 +1,6 @@
 // The calls of a basis.
-ghost use Rattle.std.specs.Prelude.{◌≡◌, ◌<◌, ◌≤◌, [], ◌∷◌, ◌++◌};
-ghost use Rattle.basis.specs.Bases.{BasisFor, Insertable, Inserts, pivoted_rows};
-ghost use Rattle.elimination.specs.Rows.{row_of};
+ghost use Rattle.std.specs.Prelude.{◌≤◌, []};
+ghost use Rattle.basis.specs.Bases.{BasisFor, Insertable, Inserts};
 ghost use Rattle.field.specs.Algebra.{Algebra};
 
 use crate::Basis;
@@ -9,6 +8,7 @@ use elimination::Row;
 use elimination::clearing::reduce;
 use elimination::normalizing::normalize;
 use field::Field;
+use table::Table;
 
 impl Basis {
     // The basis of no vector, for vectors of `width` places.
@@ -16,40 +16,30 @@ impl Basis {
         requires { width ≤ 24 }
         ensures { (A : Algebra) → BasisFor A width [] result }
     {
+        let blank = Row {
+            pivot: 0,
+            codes: [0; 24],
+        };
         Basis {
-            rows: [Row {
-                pivot: 0,
-                codes: [0; 24],
-            }; 24],
-            count: 0,
+            rows: Table::filled(blank, 0),
             width,
         }
     }
 
-    // Keeps the vector exactly where it is no sum of multiples of those kept before, and says whether it did.
+    // Keeps the vector exactly where it is no sum of multiples of those kept before, and says whether it did: a plain answer, as
+    // a set's `insert` gives, and no failure.
     pub fn insert<F: Field>(&mut self, f: &F, vector: &[u32]) -> bool
-        requires field { F.Field.valid f.now }
         requires fits { Insertable (F.Field.model f.now) self.old vector.now }
         ensures { Inserts (F.Field.model f.now) self.old vector.now result self.new }
     {
         let mut codes = [0; 24];
         let rest = &mut codes[..self.width];
         rest.copy_from_slice(vector);
-        reduce(f, &self.rows[..self.count], rest);
+        reduce(f, self.rows.items(), rest);
         let Some(pivot) = normalize(f, rest) else {
             return false;
         };
-        self.push(Row { pivot, codes });
+        self.rows.push(Row { pivot, codes }).unwrap();
         true
-    }
-
-    // One row more.
-    fn push(&mut self, row: Row)
-        requires { self.old.count < 24 }
-        ensures width { self.new.width ≡ self.old.width }
-        ensures rows { pivoted_rows self.new ≡ pivoted_rows self.old ++ (row_of self.old.width row ∷ []) }
-    {
-        self.rows[self.count] = row;
-        self.count += 1;
     }
 }

@@ -2,40 +2,17 @@
 // how many cases there were and how many were wrong.
 #![tactic(auto)]
 
-ghost use Rattle.std.specs.Prelude.{◌≡◌, ◌+◌, ◌-◌, ◌^◌, ◌<◌, min, if◌then◌else◌};
+ghost use Rattle.std.specs.Prelude.{◌<◌};
 
 use field::Field;
 use gf256::Byte;
 use prime::Prime;
-use quadratic::extend;
+use quadratic::{Pair, extend};
 use std::{fmt, io};
+use tally::Tally;
 use worked::perform::perform;
-use worked::rows::{Op, Row};
+use worked::rows::Row;
 use worked::{rows, worked_arithmetic};
-
-// How many cases were run, and how many gave another result than was expected.
-#[derive(Clone, Copy)]
-struct Tally {
-    run: u32,
-    wrong: u32,
-}
-
-impl Tally {
-    fn new() -> Tally
-        ensures { result ≡ record { run = 0; wrong = 0 } }
-    {
-        Tally { run: 0, wrong: 0 }
-    }
-
-    // One case more, right or wrong; the counts stop at their largest number.
-    fn note(&mut self, right: bool)
-        ensures run { self.new.run ≡ min (self.old.run + 1) (2 ^ 32 - 1) }
-        ensures wrong { self.new.wrong ≡ min (self.old.wrong + (if right then 0 else 1)) (2 ^ 32 - 1) }
-    {
-        self.run = self.run.saturating_add(1);
-        self.wrong = self.wrong.saturating_add(if right { 0 } else { 1 });
-    }
-}
 
 // A result as it is printed: the code, or a dash where there is none.
 #[derive(Clone, Copy)]
@@ -50,67 +27,6 @@ impl fmt::Display for Shown {
     }
 }
 
-fn sign(op: Op) -> &'static str {
-    match op {
-        Op::Add => "add",
-        Op::Mul => "mul",
-        Op::Neg => "neg",
-        Op::Inv => "inv",
-        Op::Div => "div",
-    }
-}
-
-// Codes past the size give no result, which is then counted as wrong.
-fn run<F: Field>(
-    rt: &impl Print,
-    name: &str,
-    f: &F,
-    rows: &[Row],
-    tally: &mut Tally,
-) -> io::Result<()>
-    requires { F.Field.valid f.now }
-{
-    let size = f.size();
-    for row in rows {
-        let Row(op, a, b, expected) = *row;
-        let mut got = None;
-        if (a as u64) < size && (b as u64) < size {
-            got = perform(f, op, a, b);
-        }
-        let called = sign(op);
-        let wanted = Shown(expected);
-        let came = Shown(got);
-        println!(rt; "{name} {called} {a} {b}: expected {wanted}, got {came}")?;
-        tally.note(got == expected);
-    }
-    Ok(())
-}
-
-fn primes(rt: &impl Print, tally: &mut Tally) -> io::Result<()> {
-    run(rt, "prime 7", &Prime::new(7), &rows::MODULO_7, tally)?;
-    run(
-        rt,
-        "prime 65521",
-        &Prime::new(65521),
-        &rows::MODULO_65521,
-        tally,
-    )?;
-    run(
-        rt,
-        "prime 4294967279",
-        &Prime::new(4294967279),
-        &rows::MODULO_4294967279,
-        tally,
-    )?;
-    run(
-        rt,
-        "prime 4294967291",
-        &Prime::new(4294967291),
-        &rows::MODULO_4294967291,
-        tally,
-    )
-}
-
 // The coefficients of a quadratic extension, by a root of X² − uX − v.
 #[derive(Clone, Copy)]
 struct Step {
@@ -118,111 +34,127 @@ struct Step {
     v: u32,
 }
 
-// Runs rows in an extension of the base; where there is no such field that counts as one wrong case.
-fn run_over<F: Field + Drop>(
-    rt: &impl Print,
-    name: &str,
-    base: F,
-    step: Step,
-    rows: &[Row],
-    tally: &mut Tally,
-) -> io::Result<()>
-    requires { F.Field.valid base }
-{
-    let Some(pair) = extend(base, step.u, step.v) else {
-        tally.note(false);
-        return println!(rt; "{name}: no field");
-    };
-    run(rt, name, &pair, rows, tally)
+// Where the cases are printed, and how many there were.
+#[derive(Drop)]
+struct Cases<'a, P: Print> {
+    rt: &'a P,
+    tally: Tally,
 }
 
-// The same in an extension of an extension.
-fn run_tower<F: Field + Drop>(
-    rt: &impl Print,
-    name: &str,
-    base: F,
-    steps: (Step, Step),
-    rows: &[Row],
-    tally: &mut Tally,
-) -> io::Result<()>
-    requires { F.Field.valid base }
-{
-    let Some(pair) = extend(base, steps.0.u, steps.0.v) else {
-        tally.note(false);
-        return println!(rt; "{name}: no field");
-    };
-    run_over(rt, name, pair, steps.1, rows, tally)
-}
-
-fn pairs(rt: &impl Print, tally: &mut Tally) -> io::Result<()> {
-    run_over(
-        rt,
-        "prime 3 by 0 2",
-        Prime::new(3),
-        Step { u: 0, v: 2 },
-        &rows::NINE,
-        tally,
-    )?;
-    run_over(
-        rt,
-        "prime 65521 by 0 17",
-        Prime::new(65521),
-        Step { u: 0, v: 17 },
-        &rows::EXTENDED_65521,
-        tally,
-    )?;
-    run_over(
-        rt,
-        "byte by 1 32",
-        Byte,
-        Step { u: 1, v: 32 },
-        &rows::WORD,
-        tally,
-    )
-}
-
-fn towers(rt: &impl Print, tally: &mut Tally) -> io::Result<()> {
-    let sevens = (Step { u: 0, v: 3 }, Step { u: 0, v: 8 });
-    run_tower(
-        rt,
-        "prime 7 by 0 3 by 0 8",
-        Prime::new(7),
-        sevens,
-        &rows::TOWER_7,
-        tally,
-    )?;
-    let bytes = (Step { u: 1, v: 32 }, Step { u: 1, v: 8192 });
-    run_tower(
-        rt,
-        "byte by 1 32 by 1 8192",
-        Byte,
-        bytes,
-        &rows::TOWER_BYTE,
-        tally,
-    )
-}
-
-// The cases that are also proved of the definitions.
-fn proved(rt: &impl Print, tally: &mut Tally) -> io::Result<()> {
-    let got = worked_arithmetic();
-    let expected = [Some(193), Some(202), Some(2), Some(5)];
-    for (came, wanted) in got.iter().zip(expected.iter()) {
-        let came = Shown(*came);
-        let wanted = Shown(*wanted);
-        println!(rt; "worked case: expected {wanted}, got {came}")?;
-        tally.note(came.0 == wanted.0);
+impl<P: Print> Cases<'_, P> {
+    // Runs rows in a field. Codes past its size give no result, which is then counted as wrong.
+    fn run<F: Field>(&mut self, name: &str, f: &F, rows: &[Row]) -> io::Result<()> {
+        let size = f.size();
+        for row in rows {
+            let Row(op, a, b, expected) = *row;
+            let got = if (a as u64) < size && (b as u64) < size {
+                perform(f, op, a, b)
+            } else {
+                None
+            };
+            let wanted = Shown(expected);
+            let came = Shown(got);
+            println!(self.rt; "{name} {op} {a} {b}: expected {wanted}, got {came}")?;
+            self.tally.note(got == expected);
+        }
+        Ok(())
     }
-    Ok(())
+
+    // An extension of the base; where there is no such field that counts as one wrong case.
+    fn extended<F: Field + Drop>(
+        &mut self,
+        name: &str,
+        base: F,
+        step: Step,
+    ) -> io::Result<Option<Pair<F>>> {
+        let pair = extend(base, step.u, step.v);
+        if pair.is_none() {
+            self.tally.note(false);
+            println!(self.rt; "{name}: no field")?;
+        }
+        Ok(pair)
+    }
+
+    // Runs rows in an extension of the base.
+    fn run_over<F: Field + Drop>(
+        &mut self,
+        name: &str,
+        base: F,
+        step: Step,
+        rows: &[Row],
+    ) -> io::Result<()> {
+        if let Some(pair) = self.extended(name, base, step)? {
+            self.run(name, &pair, rows)?;
+        }
+        Ok(())
+    }
+
+    // The same in an extension of an extension.
+    fn run_tower<F: Field + Drop>(
+        &mut self,
+        name: &str,
+        base: F,
+        steps: (Step, Step),
+        rows: &[Row],
+    ) -> io::Result<()> {
+        if let Some(pair) = self.extended(name, base, steps.0)? {
+            self.run_over(name, pair, steps.1, rows)?;
+        }
+        Ok(())
+    }
+
+    fn primes(&mut self) -> io::Result<()> {
+        self.run("prime 7", &Prime::new(7), &rows::MODULO_7)?;
+        self.run("prime 65521", &Prime::new(65521), &rows::MODULO_65521)?;
+        let second = Prime::new(4294967279);
+        self.run("prime 4294967279", &second, &rows::MODULO_4294967279)?;
+        let largest = Prime::new(4294967291);
+        self.run("prime 4294967291", &largest, &rows::MODULO_4294967291)
+    }
+
+    fn pairs(&mut self) -> io::Result<()> {
+        let step = Step { u: 0, v: 2 };
+        self.run_over("prime 3 by 0 2", Prime::new(3), step, &rows::NINE)?;
+        let step = Step { u: 0, v: 17 };
+        let base = Prime::new(65521);
+        self.run_over("prime 65521 by 0 17", base, step, &rows::EXTENDED_65521)?;
+        let step = Step { u: 1, v: 32 };
+        self.run_over("byte by 1 32", Byte, step, &rows::WORD)
+    }
+
+    fn towers(&mut self) -> io::Result<()> {
+        let steps = (Step { u: 0, v: 3 }, Step { u: 0, v: 8 });
+        let base = Prime::new(7);
+        self.run_tower("prime 7 by 0 3 by 0 8", base, steps, &rows::TOWER_7)?;
+        let steps = (Step { u: 1, v: 32 }, Step { u: 1, v: 8192 });
+        self.run_tower("byte by 1 32 by 1 8192", Byte, steps, &rows::TOWER_BYTE)
+    }
+
+    // The cases that are also proved of the definitions.
+    fn proved(&mut self) -> io::Result<()> {
+        let got = worked_arithmetic();
+        let expected = [Some(193), Some(202), Some(2), Some(5)];
+        for (came, wanted) in got.iter().zip(expected.iter()) {
+            let right = *came == *wanted;
+            let came = Shown(*came);
+            let wanted = Shown(*wanted);
+            println!(self.rt; "worked case: expected {wanted}, got {came}")?;
+            self.tally.note(right);
+        }
+        Ok(())
+    }
 }
 
 fn main(rt: HostRuntime) -> io::Result<()> {
-    let mut tally = Tally::new();
-    run(&rt, "byte", &Byte, &rows::BYTE, &mut tally)?;
-    primes(&rt, &mut tally)?;
-    pairs(&rt, &mut tally)?;
-    towers(&rt, &mut tally)?;
-    proved(&rt, &mut tally)?;
-    let run = tally.run;
-    let wrong = tally.wrong;
-    println!(rt; "{run} cases, {wrong} wrong")
+    let mut cases = Cases {
+        rt: &rt,
+        tally: Tally::new(),
+    };
+    cases.run("byte", &Byte, &rows::BYTE)?;
+    cases.primes()?;
+    cases.pairs()?;
+    cases.towers()?;
+    cases.proved()?;
+    let tally = cases.tally;
+    println!(rt; "{tally}")
 }

@@ -7,14 +7,10 @@ use std::io::{Read, Write};
 // One byte more than a text may have: enough to know that it is too long.
 const ENOUGH: u64 = 65537;
 
-fn run(rt: &HostRuntime) -> anyhow::Result<()> {
+fn main(rt: HostRuntime) -> anyhow::Result<()> {
     let mut text = Vec::new(rt.alloc());
     rt.stdin().take(ENOUGH).read_to_end(&mut text)?;
     let page = report(rt.alloc(), &text)?;
     rt.stdout().write_all(&page)?;
     Ok(())
-}
-
-fn main(rt: HostRuntime) -> anyhow::Result<()> {
-    run(&rt)
 }

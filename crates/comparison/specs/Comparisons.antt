@@ -1,22 +1,18 @@
 -- What a comparison stands for.
 use Rattle.std.specs.Prelude.{◌≡◌, ℕ, Result, MatchResult}
 use Rattle.field.specs.declared.Field.{Ghosts}
-use Rattle.engine.specs.States.{session_of}
-use Rattle.engine.specs.declared.state.State.{State}
+use Rattle.engine.specs.States as state
 use Rattle.refusals.specs.declared.Refusal.{Refusal}
 use Rattle.session.specs.Calls.{AllPass, FirstFailing, count_checks}
 use Rattle.session.specs.Sessions.{Session}
 use Rattle.comparison.specs.declared.comparison.Comparison.{Comparison}
 use Rattle.comparison.specs.declared.counts.Counts.{Counts}
 
-abbrev pub state_of : {X : Type 0} {g : Ghosts X} → Comparison X g → State X
-state_of c = c.state
-
 abbrev pub field_of : {X : Type 0} {g : Ghosts X} → Comparison X g → X
-field_of c = c.state.field
+field_of c = state.field_of c.state
 
 abbrev pub session : {X : Type 0} {g : Ghosts X} → Comparison X g → Session
-session c = session_of c.state
+session c = record { phase = c.phase; sides = state.sides_of c.state }
 
 -- the state counts of the sides
 abbrev pub count_a : Counts → ℕ

@@ -5,16 +5,17 @@ ghost use Rattle.std.specs.Prelude.{◌≡◌};
 
 use crate::comparison::Comparison;
 use crate::counts::Counts;
-use engine::state::State;
+use engine::State;
 use field::Field;
 use refusals::Refusal;
+use session::Phase;
 
 impl Counts {
     // The counts, unless one is outside 1 to 12.
     pub fn new(a: u32, b: u32) -> Result<Counts, Refusal>
         ensures { Counted a b result }
     {
-        if a == 0 || a > 12 || b == 0 || b > 12 {
+        if !(1..=12).contains(&a) || !(1..=12).contains(&b) {
             return Err(Refusal::StateCountOutOfRange);
         }
         Ok(Counts {
@@ -27,12 +28,12 @@ impl Counts {
 impl<F: Field> Comparison<F> {
     // No symbols, no rules, all final weights zero, and open.
     pub fn begin(field: F, counts: Counts) -> Comparison<F>
-        requires { F.Field.valid field }
         ensures holds { session result ≡ begun (count_a counts) (count_b counts) }
         ensures field { field_of result ≡ field }
     {
-        let state = State::begin(field, counts.a, counts.b);
-        let holds = state.holds();
-        Comparison { state, holds }
+        Comparison {
+            phase: Phase::Open,
+            state: State::begin(field, counts.a, counts.b),
+        }
     }
 }

@@ -1,14 +1,11 @@
-// A comparison holds its state, and the token that the state is valid.
-ghost use Rattle.std.specs.Prelude.{◌≡◌};
-
-use engine::state::State;
-use evidence::Holds;
+// A comparison holds its phase, and the state that its calls declare. One type for all phases, since a call in the wrong phase is
+// refused by a number.
+use engine::State;
 use field::Field;
+use session::Phase;
 
 #[derive(Drop)]
 pub struct Comparison<F: Field> {
+    pub(crate) phase: Phase,
     pub(crate) state: State<F>,
-    pub(crate) holds: Holds<F, State<F>>,
-    ghost of_field: { holds.field ≡ state.field },
-    ghost of_state: { holds.of ≡ state },
 }

@@ -1,2 +1,3 @@
 pub mod Rules
 pub mod Towers
+pub mod Parts

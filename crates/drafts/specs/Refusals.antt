@@ -9,7 +9,7 @@ use Rattle.format.specs.Records.{state_names, symbol_names}
 use Rattle.refusals.specs.Numbers.{number}
 use Rattle.refusals.specs.declared.Refusal.{Refusal}
 use Rattle.rules.specs.Rules.{rule_model}
-use Rattle.rules.specs.declared.tables.Rule.{Rule}
+use Rattle.rules.specs.declared.Rule.{Rule}
 use Rattle.drafts.specs.declared.Draft.{Draft}
 use Rattle.drafts.specs.Drafts.{draft_of}
 

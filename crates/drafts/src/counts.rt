@@ -5,21 +5,13 @@ ghost use Rattle.tables.specs.Tables.{symbols_of};
 
 use crate::Draft;
 use lines::Side;
-use shapes::shape::Shape;
 
 impl Draft {
     // The extensions made.
     pub fn extended(&self) -> u32
         ensures { result ≡ length (extensions self.now) }
     {
-        match self.field.shape() {
-            Shape::Prime(_) => 0,
-            Shape::Byte(_) => 0,
-            Shape::PrimePair(_) => 1,
-            Shape::BytePair(_) => 1,
-            Shape::PrimeTower(_) => 2,
-            Shape::ByteTower(_) => 2,
-        }
+        self.field.steps().len() as u32
     }
 
     // The extensions announced.
@@ -32,18 +24,18 @@ impl Draft {
     pub fn symbol_count(&self) -> usize
         ensures { result ≡ length (symbols_of self.now.symbols) }
     {
-        self.symbols.items().len()
+        self.symbols.len()
     }
 
     pub fn state_count(&self, side: Side) -> usize
         ensures { result ≡ length (states_of (side_part self.now side)) }
     {
-        self.part(side).states.items().len()
+        self.part(side).states.len()
     }
 
     pub fn rule_count(&self, side: Side) -> usize
         ensures { result ≡ length (rules_of (side_part self.now side)) }
     {
-        self.part(side).rules.count()
+        self.part(side).rules.len()
     }
 }

@@ -3,9 +3,11 @@
 
 ghost use Rattle.std.specs.Prelude.{◌≤◌};
 
-use rules::tables::Rules;
-use shapes::given::Given;
-use tables::{States, Symbols};
+use rules::Rule;
+use shapes::shape::Shape;
+use side::Both;
+use table::Table;
+use tables::{State, Symbol};
 
 mod counts;
 mod reads;
@@ -14,17 +16,16 @@ mod values;
 // The states and rules of one side.
 #[derive(Clone, Copy)]
 pub struct Part {
-    pub states: States,
-    pub rules: Rules,
+    pub states: Table<State, 12>,
+    pub rules: Table<Rule, 256>,
 }
 
 // The field so far with the number of extensions announced, the symbols, and the two sides.
 #[derive(Clone, Copy)]
 pub struct Draft {
-    pub(crate) field: Given,
+    pub(crate) field: Shape,
     pub(crate) announced: u32,
-    pub(crate) symbols: Symbols,
-    pub(crate) a: Part,
-    pub(crate) b: Part,
+    pub(crate) symbols: Table<Symbol, 12>,
+    pub(crate) parts: Both<Part>,
     ghost two: { announced ≤ 2 },
 }

@@ -1,6 +1,5 @@
 // The lines of values.
-ghost use Rattle.std.specs.Prelude.{◌≡◌, ℕ, ◌<◌, ◌≤◌, true, false, List, [], ◌∷◌, ◌++◌, length, MatchResult};
-ghost use Rattle.refusals.specs.declared.Refusal.TheVariants.{TableFull};
+ghost use Rattle.std.specs.Prelude.{◌≡◌, ℕ, ◌<◌, ◌≤◌, true, List, [], ◌∷◌, ◌++◌, length};
 ghost use Rattle.format.specs.Lines.{declares_state, declares_symbol, extends_by, gives_rule, names_field};
 ghost use Rattle.format.specs.Reading.{blank, nowhere};
 ghost use Rattle.words.specs.Words.{is_name};
@@ -9,23 +8,15 @@ ghost use Rattle.lines.specs.Recognized.{side_of};
 ghost use Rattle.drafts.specs.Refusals.{Makes, Takes};
 
 use crate::{Draft, Part};
+use field::Field;
 use lines::Side;
 use refusals::Refusal;
-use rules::tables::{Rule, Rules};
-use shapes::given::Given;
-use shapes::shape::Kind;
-use tables::{Children, State, States, Symbol, Symbols};
+use rules::Rule;
+use shapes::shape::{Kind, Shape};
+use side::Both;
+use table::Table;
+use tables::{Children, State, Symbol};
 use words::Name;
-
-// A table that takes nothing more is full.
-fn or_full(taken: bool) -> Result<(), Refusal>
-    ensures { MatchResult result (λ _. taken ≡ true) (λ e. (taken ≡ false) × (e ≡ TableFull)) }
-{
-    if taken {
-        return Ok(());
-    }
-    Err(Refusal::TableFull)
-}
 
 impl Draft {
     // Nothing declared.
@@ -33,31 +24,26 @@ impl Draft {
         ensures { draft_of result nowhere ≡ blank }
     {
         let part = Part {
-            states: States::empty(),
-            rules: Rules::empty(),
+            states: Table::new(),
+            rules: Table::new(),
         };
         Draft {
-            field: Given::of_kind(Kind::Bytes).unwrap(),
+            field: Shape::of_kind(Kind::Bytes).unwrap(),
             announced: 0,
-            symbols: Symbols::empty(),
-            a: part,
-            b: part,
+            symbols: Table::new(),
+            parts: Both { a: part, b: part },
         }
     }
 
     // The field by its kind, with the number of extensions to come.
     pub fn name_field(&mut self, kind: Kind, announced: u32) -> Result<(), Refusal>
-        requires { (announced ≤ 2) × (extensions self.old ≡ []) }
+        requires two { announced ≤ 2 }
+        requires unextended { extensions self.old ≡ [] }
         ensures { Takes self.old (names_field kind announced) result self.new }
     {
-        match Given::of_kind(kind) {
-            Some(field) => {
-                self.field = field;
-                self.announced = announced;
-                Ok(())
-            }
-            None => Err(Refusal::NoSuchModulus),
-        }
+        self.field = Shape::of_kind(kind).ok_or(Refusal::NoSuchModulus)?;
+        self.announced = announced;
+        Ok(())
     }
 
     // One of the extensions announced, by u and v.
@@ -65,13 +51,8 @@ impl Draft {
         requires { length (extensions self.old) < self.old.announced }
         ensures { Takes self.old (extends_by u v) result self.new }
     {
-        match self.field.extended(u, v) {
-            Some(field) => {
-                self.field = field;
-                Ok(())
-            }
-            None => Err(Refusal::NoExtension),
-        }
+        self.field = self.field.extended(u, v).ok_or(Refusal::NoExtension)?;
+        Ok(())
     }
 
     // A symbol and its rank.
@@ -82,11 +63,12 @@ impl Draft {
         if rank > 3 {
             return Err(Refusal::RankTooLarge);
         }
-        if self.symbols.number(name) != 0 {
+        if self.symbol_number(name).is_some() {
             return Err(Refusal::Repeated);
         }
         let name = Name::new(name).unwrap();
-        or_full(self.symbols.add(Symbol { name, rank }))
+        self.symbols.push(Symbol { name, rank })?;
+        Ok(())
     }
 
     // A state of a side and its final weight.
@@ -94,28 +76,27 @@ impl Draft {
         requires { is_name name.now ≡ true }
         ensures { Takes self.old (declares_state (side_of side) name.now weight) result self.new }
     {
-        if self.part(side).states.number(name) != 0 {
+        if self.part(side).state_number(name).is_some() {
             return Err(Refusal::Repeated);
         }
         if weight as u64 >= self.field.size() {
             return Err(Refusal::WeightTooLarge);
         }
         let name = Name::new(name).unwrap();
-        let state = State { name, weight };
-        match side {
-            Side::A => or_full(self.a.states.add(state)),
-            Side::B => or_full(self.b.states.add(state)),
-        }
+        let part = self.parts.at_mut(side);
+        part.states.push(State { name, weight })?;
+        Ok(())
     }
 
     // A rule's children with one more of them, by its name.
     pub fn and_child(&self, side: Side, children: Children, name: &[u8]) -> Children
         ensures { (cs : List (List ℕ)) → ChildrenAre self.now side cs children → ChildrenAre self.now side (cs ++ (name.now ∷ [])) result }
     {
-        children.and(self.part(side).states.number(name))
+        children.and(self.part(side).state_number(name))
     }
 
-    // The rule of a side with these names, where they are declared and it has as many children as its symbol's rank.
+    // The rule of a side with these names, where they are declared and it has as many children as its symbol's rank. What is
+    // given are the parts of `Line::Rule` but for the children: a struct of the five would be taken apart at once.
     fn make_rule(
         &self,
         side: Side,
@@ -126,20 +107,13 @@ impl Draft {
     ) -> Result<Rule, Refusal>
         ensures { (cs : List (List ℕ)) → ChildrenAre self.now side cs children → Makes self.now (side_of side) symbol.now target.now weight cs result }
     {
-        let symbol = self.symbols.number(symbol);
-        if symbol == 0 {
-            return Err(Refusal::Undeclared);
-        }
-        if children.count as u32 != self.symbols.rank(symbol) {
+        let symbol = self.symbol_number(symbol).ok_or(Refusal::Undeclared)?;
+        if children.count() as u32 != self.rank(symbol) {
             return Err(Refusal::WrongChildren);
         }
-        let target = self.part(side).states.number(target);
-        if target == 0 {
-            return Err(Refusal::Undeclared);
-        }
-        if !children.declared() {
-            return Err(Refusal::Undeclared);
-        }
+        let part = self.part(side);
+        let target = part.state_number(target).ok_or(Refusal::Undeclared)?;
+        let children = children.declared().ok_or(Refusal::Undeclared)?;
         if weight as u64 >= self.field.size() {
             return Err(Refusal::WeightTooLarge);
         }
@@ -147,8 +121,7 @@ impl Draft {
             symbol,
             target,
             weight,
-            children: children.numbers,
-            count: children.count,
+            children,
         })
     }
 
@@ -164,9 +137,7 @@ impl Draft {
         ensures { (cs : List (List ℕ)) → ChildrenAre self.old side cs children → Takes self.old (gives_rule (side_of side) symbol.now target.now weight cs) result self.new }
     {
         let rule = self.make_rule(side, symbol, target, weight, children)?;
-        match side {
-            Side::A => or_full(self.a.rules.add(rule)),
-            Side::B => or_full(self.b.rules.add(rule)),
-        }
+        self.parts.at_mut(side).rules.push(rule)?;
+        Ok(())
     }
 }

@@ -1,6 +1,7 @@
 -- A loop over the places of a vector that writes each place anew. Assumes nothing.
-use Rattle.std.proofs.Common.{◌≡◌, ℕ, ◌+◌, ◌<◌, ◌≤◌, List, map, length, get_or, set, refl, ap, ◌∙◌, arith}
-use Rattle.std.specs.List.{AllByRecursion, range_with_len}
+use Rattle.std.proofs.Common.{◌≡◌, ℕ, ◌+◌, ◌<◌, ◌≤◌, List, map, length, get_or, set, ap, ◌∙◌, arith}
+use Rattle.std.specs.List.{range_with_len}
+use Rattle.field.specs.Codes.{AllBelow}
 use Rattle.std.proofs.lemmas.List.{get_or-set_other}
 use Rattle.std.proofs.lemmas.List.FromFn.{fill_by_all}
 use Rattle.std.proofs.lemmas.List.Edits.{fill_by_more}
@@ -9,12 +10,9 @@ use Rattle.std.proofs.ByRecursion.{All-set}
 -- the first i places of v are as F says, the others as they were before, and all are codes below q
 abbrev pub Rewritten : ℕ → (ℕ → ℕ) → List ℕ → List ℕ → ℕ → Type 0
 Rewritten q F before v i =
-    AllByRecursion (λ c. c < q) v × ((k : ℕ) → k < i → get_or v k 0 ≡ F k) × ((k : ℕ) → i ≤ k → get_or v k 0 ≡ get_or before k 0)
+    AllBelow q v × ((k : ℕ) → k < i → get_or v k 0 ≡ F k) × ((k : ℕ) → i ≤ k → get_or v k 0 ≡ get_or before k 0)
 
 module _ (q : ℕ) (F : ℕ → ℕ) (before : List ℕ) where
-  pub rewritten_none : AllByRecursion (λ c. c < q) before → Rewritten q F before before 0
-  rewritten_none h = (h, λ k l. absurd (omega arith), λ k l. refl)
-
   pub rewritten_more :
       (v : List ℕ) (i x : ℕ)
       → i < length v

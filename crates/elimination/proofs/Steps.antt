@@ -1,20 +1,12 @@
--- A vector cleared already, one row more, and the inverse as it is read. Assumes nothing.
-use Rattle.std.proofs.Common.{◌≡◌, ℕ, ◌+◌, ◌<◌, ◌≤◌, true, List, map, length, get_or, take, is_some, Some, Option, sym, refl, ap, ◌∙◌, subst, ap₂, arith}
-use Rattle.std.specs.List.{AllByRecursion}
-use Rattle.std.proofs.lemmas.List.{map_more, take_all}
+-- A vector cleared already, and the inverse as it is read. Assumes nothing.
+use Rattle.std.proofs.Common.{◌≡◌, ℕ, ◌<◌, true, List, length, get_or, is_some, Some, Option, sym, refl, ap, ◌∙◌, subst, arith}
 use Rattle.std.proofs.lemmas.List.FromFn.{fill_by_all}
-use Rattle.std.proofs.lemmas.List.Sums.{fold_push}
 use Rattle.std.proofs.ByRecursion.{All-get_or}
 use Rattle.field.specs.Algebra.{Algebra, Lawful, inverse}
+use Rattle.field.specs.Codes.{AllBelow}
 use Rattle.field.proofs.Codes.{elements, elements_ring}
 use Rattle.field.proofs.Rings.{opp_nil, nil_prod}
-use Rattle.elimination.specs.Vectors.{VectorOver, cleared_by, reduced_by}
-use Rattle.elimination.specs.Rows.{row_of}
-use Rattle.elimination.specs.declared.Row.{Row}
-
--- what holds of each element holds of the one read at a place
-pub all_read : {X : Type 0} (P : X → Type 0) (xs : List X) (i : ℕ) (x : X) → i < length xs → x ≡ get_or xs i x → AllByRecursion P xs → P x
-all_read P xs i x l e h = subst P (sym e) (All-get_or P xs i x l h)
+use Rattle.elimination.specs.Vectors.{VectorOver, cleared_by}
 
 -- what is zero at the pivot is cleared already
 module _ (A : Algebra) (L : Lawful A) where
@@ -26,7 +18,7 @@ module _ (A : Algebra) (L : Lawful A) where
 
   pub cleared_already :
       (v row : List ℕ) (p : ℕ)
-      → AllByRecursion (λ c. c < A.size) v
+      → AllBelow A.size v
       → VectorOver A (length v) row
       → get_or v p 0 ≡ 0
       → v ≡ cleared_by A (length v) v (p, row)
@@ -36,29 +28,6 @@ module _ (A : Algebra) (L : Lawful A) where
       sym
       (ap (λ z. A.sum (get_or v i 0) (A.prod (A.opp z) (get_or row i 0))) e
       ∙ keeps_code (get_or v i 0) (get_or row i 0) (All-get_or _ v i 0 l h) (All-get_or _ row i 0 (omega (arith, k.0)) k.1)))
-
--- one row more, and all of them
-pub reduced_more :
-    (A : Algebra) (n : ℕ) (rows : List Row) (v : List ℕ) (i : ℕ) (r : Row) (w u : List ℕ)
-    → i < length rows
-    → r ≡ get_or rows i r
-    → length w ≡ n
-    → w ≡ reduced_by A n (map (row_of n) (take i rows)) v
-    → u ≡ cleared_by A (length w) w (r.pivot, take (length w) r.codes)
-    → u ≡ reduced_by A n (map (row_of n) (take (i + 1) rows)) v
-reduced_more A n rows v i r w u l at e reduced cleared =
-    cleared ∙ ap (λ m. cleared_by A m w (r.pivot, take m r.codes)) e
-    ∙ ap₂ (λ z x. cleared_by A n z (row_of n x)) reduced at
-    ∙ sym
-    (ap (λ xs. reduced_by A n xs v) (map_more (row_of n) rows i r l)
-    ∙ fold_push (cleared_by A n) v (map (row_of n) (take i rows)) (row_of n (get_or rows i r)))
-
-pub reduced_all :
-    (A : Algebra) (n : ℕ) (rows : List Row) (v : List ℕ) (i : ℕ) (w : List ℕ)
-    → length rows ≤ i
-    → w ≡ reduced_by A n (map (row_of n) (take i rows)) v
-    → w ≡ reduced_by A n (map (row_of n) rows) v
-reduced_all A n rows v i w l reduced = reduced ∙ ap (λ xs. reduced_by A n (map (row_of n) xs) v) (take_all i rows l)
 
 -- the inverse of an element that is not zero, as it is read
 module _ (A : Algebra) (L : Lawful A) (x : ℕ) (o : Option ℕ) (b : x < A.size) (ne : x ≡ 0 → ⊥) (e : o ≡ inverse A x) where

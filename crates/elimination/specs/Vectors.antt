@@ -1,11 +1,12 @@
 -- Elimination on vectors of codes. A row is a place, its pivot, with a vector.
 use Rattle.std.specs.Prelude.{◌≡◌, ℕ, ◌<◌, List, map, length, Some, None, fold, Option, ◌≢◌, slice_index}
-use Rattle.std.specs.List.{AllByRecursion, range_with_len}
+use Rattle.std.specs.List.{range_with_len}
 use Rattle.field.specs.Algebra.{Algebra}
+use Rattle.field.specs.Codes.{AllBelow}
 
 -- n codes of the field
 abbrev pub VectorOver : Algebra → ℕ → List ℕ → Type 0
-VectorOver A n v = (length v ≡ n) × AllByRecursion (λ c. c < A.size) v
+VectorOver A n v = (length v ≡ n) × AllBelow A.size v
 
 -- v less the multiple of a row that leaves zero at the row's pivot, where the row is one
 abbrev pub cleared_by : Algebra → ℕ → List ℕ → ((p : ℕ) × List ℕ) → List ℕ

@@ -1,7 +1,9 @@
-// The state of a comparison, and its calls where the field is valid and the state keeps its invariant.
+// What has been declared of a comparison, valid by its type, and the calls on it.
 #![tactic(auto)]
 
-mod calls;
+mod begin;
 mod declaring;
-pub mod state;
+mod state;
 mod weighed;
+
+pub use state::State;

@@ -1,3 +1,4 @@
-pub mod Lists
+pub mod Backwards
+pub mod Dots
 pub mod Products
 pub mod Sums

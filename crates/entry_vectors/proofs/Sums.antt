@@ -1,7 +1,8 @@
 -- The sums over the rules that lead to a state, gathered rule by rule from the last.
-use Rattle.std.proofs.Common.{◌≡◌, ℕ, zero, suc, ◌-◌, ◌<◌, ◌≤◌, Bool, true, false, cond, ◌&&◌, eqb, ◌≢◌, List, [], ◌∷◌, map, length, get_or, take, drop, set, replicate, sym, refl, ap, ◌∙◌, ap₂, inl, inr, arith, length-set}
+use Rattle.std.proofs.Common.{◌≡◌, ℕ, zero, suc, ◌-◌, ◌<◌, ◌≤◌, Bool, true, false, cond, ◌&&◌, eqb, ◌≢◌, List, [], ◌∷◌, ◌++◌, map, length, get_or, take, replicate, sym, refl, ap, ◌∙◌, inl, inr, arith, length-set}
 use lib.ListN.{length-map, get_or-replicate}
-use Rattle.std.proofs.lemmas.List.{ext_get_or, get_or-map, get_or-set_other, get_or-set_same, get_or-take, length-take-le, set_past}
+use Rattle.std.proofs.lemmas.List.Sums.{fold_push}
+use Rattle.std.proofs.lemmas.List.{ext_get_or, map_push, get_or-map, get_or-set_other, get_or-set_same, get_or-take, length-take-le}
 use Rattle.std.proofs.lemmas.Bool.Decides.{eqb_tells}
 use Rattle.field.specs.Ops.{Ops, total}
 use Rattle.equivalence.specs.Automata.{Rule, Automaton, states, numbers, leading}
@@ -9,27 +10,15 @@ use Rattle.equivalence.specs.Entries.{Entry}
 use Rattle.equivalence.specs.Valuing.{through, entry_vector}
 use Rattle.equivalence.proofs.Lists.{getD_numbers}
 use Rattle.equivalence.proofs.Members.{length_numbers}
-use Rattle.entry_vectors.specs.Combining.{added, led}
-use Rattle.entry_vectors.proofs.Lists.{drop_less, image_at}
+use Rattle.std.specs.Prelude.{reverse}
+use Rattle.std.specs.List.{fold}
+use Rattle.entry_vectors.specs.Combining.{added}
+use Rattle.entry_vectors.proofs.Backwards.{fold_back}
 
 module _ (o : Ops ℕ) where
   pub length_added : (t x : ℕ) (v : List ℕ) → length (added o t x v) ≡ length v
   length_added zero x v = refl
   length_added (suc t) x v = length-set v t _
-
-  pub added_past : (t x : ℕ) (v : List ℕ) → length v < t → added o t x v ≡ v
-  added_past zero x v h = refl
-  added_past (suc t) x v h = set_past v t _ (omega arith)
-
-  pub added_none : (t x : ℕ) (v : List ℕ) → t ≡ 0 → added o t x v ≡ v
-  added_none zero x v h = refl
-  added_none (suc t) x v h = absurd (omega arith)
-
-  pub added_at : (t x y : ℕ) (v : List ℕ) → 1 ≤ t → y ≡ o.sum x (get_or v (t - 1) o.nil) → set v (t - 1) y ≡ added o t x v
-  added_at zero x y v h e = absurd (omega arith)
-  added_at (suc t) x y v h e =
-      let at : suc t - 1 ≡ t = omega arith in
-      ap (set v (suc t - 1)) e ∙ ap (λ i. set v i (o.sum x (get_or v i o.nil))) at
 
   added_read :
       (t x s : ℕ) (v : List ℕ)
@@ -62,13 +51,17 @@ module _ (o : Ops ℕ) where
   length_cond false v w n h k = k
 
   module _ (vs : List (List ℕ)) (e : Entry) where
+    -- the vector of an entry after one rule more: of the entry's symbol, it adds its weight times the product through the children
+    abbrev pub led : Rule ℕ → List ℕ → List ℕ
+    led r vector = cond (eqb r.symbol e.symbol) (added o r.target (o.prod r.weight (through o vs e.children r.children)) vector) vector
+
     abbrev term : Rule ℕ → ℕ
     term r = o.prod r.weight (through o vs e.children r.children)
 
     -- the vector after these rules
     abbrev pub gathered : List (Rule ℕ) → List ℕ
     gathered [] = replicate 12 o.nil
-    gathered (r ∷ rs) = led o vs e r (gathered rs)
+    gathered (r ∷ rs) = led r (gathered rs)
 
     pub length_gathered : (rs : List (Rule ℕ)) → length (gathered rs) ≡ 12
     length_gathered [] = refl
@@ -101,28 +94,38 @@ module _ (o : Ops ℕ) where
         ∙ sym (get_or-map sums (numbers n) i 0 o.nil (omega arith)
         ∙ ap sums (ap (λ j. get_or (numbers n) j 0) (sym one) ∙ getD_numbers n (suc i) 0 (omega arith) (omega arith))))
 
-    -- a rule more, of those that the list's elements stand for
-    pub gathered_more :
-        {X : Type 0} (f : X → Rule ℕ) (xs : List X) (i : ℕ) (x : X) (old new : List ℕ)
-        → 1 ≤ i → i ≤ length xs → x ≡ get_or xs (i - 1) x
-        → old ≡ gathered (drop i (map f xs))
-        → new ≡ led o vs e (f x) old
-        → new ≡ gathered (drop (i - 1) (map f xs))
-    gathered_more f xs i x old new some in' is was is_led =
-        let l = length-map xs f in
-        let at = image_at f xs (i - 1) x (omega arith) is in
-        let less = drop_less (map f xs) i (f x) some (omega arith) in
-        is_led
-        ∙ ap (led o vs e (f x)) was
-        ∙ ap (λ r. led o vs e r (gathered (drop i (map f xs)))) (sym at)
-        ∙ ap gathered (sym less)
+    -- what a rule of the entry's symbol adds
+    pub led_is :
+        (r : Rule ℕ) (v w : List ℕ) (p x : ℕ)
+        → r.symbol ≡ e.symbol
+        → p ≡ through o vs e.children r.children
+        → x ≡ o.prod r.weight p
+        → w ≡ added o r.target x v
+        → w ≡ led r v
+    led_is r v w p x same through_is times plus =
+        elim (eqb_tells r.symbol e.symbol) [
+          | inl t ↦ rw t.0 (plus ∙ ap (λ y. added o r.target y v) (times ∙ ap (o.prod r.weight) through_is))
+          | inr t ↦ absurd (t.1 same)
+        ]
 
-    -- the vector after the rules of an automaton, all of them
-    pub gathered_all :
-        {X : Type 0} (f : X → Rule ℕ) (xs : List X) (i : ℕ) (v : List ℕ) (M : Automaton ℕ)
-        → states M ≤ 12 → i ≡ 0
+    pub led_more :
+        {X Y : Type 0} (f : Y → Rule ℕ) (now : X → Y) (xs : List X) (x : X) (first v w : List ℕ)
+        → v ≡ fold (λ u y. led (f y) u) first (map now xs)
+        → w ≡ led (f (now x)) v
+        → w ≡ fold (λ u y. led (f y) u) first (map now (xs ++ (x ∷ [])))
+    led_more f now xs x first v w was is =
+        is
+        ∙ ap (led (f (now x))) was
+        ∙ sym (ap (fold (λ u y. led (f y) u) first) (map_push now xs x) ∙ fold_push (λ u y. led (f y) u) first (map now xs) (now x))
+
+    -- gathered from the last rule to the first, of the rules of an automaton
+    pub gathered_back :
+        {X : Type 0} (f : X → Rule ℕ) (xs ys : List X) (M : Automaton ℕ)
+        → states M ≤ 12
         → map f xs ≡ M.rules
-        → v ≡ gathered (drop i (map f xs))
-        → take (states M) v ≡ entry_vector o M vs e
-    gathered_all f xs i v M few end holds is =
-        ap (take (states M)) (is ∙ ap₂ (λ n rs. gathered (drop n rs)) end holds) ∙ gathered_vector M few
+        → ys ≡ reverse xs
+        → take (states M) (fold (λ v x. led (f x) v) (replicate 12 o.nil) ys) ≡ entry_vector o M vs e
+    gathered_back f xs ys M few holds are =
+        ap (λ zs. take (states M) (fold (λ v x. led (f x) v) (replicate 12 o.nil) zs)) are
+        ∙ ap (take (states M)) (fold_back (λ x v. led (f x) v) (λ zs. gathered (map f zs)) (λ x zs. refl) xs ∙ ap gathered holds)
+        ∙ gathered_vector M few

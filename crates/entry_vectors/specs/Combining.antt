@@ -1,38 +1,24 @@
 -- What it takes to combine vectors, and the steps of it.
-use Rattle.std.specs.Prelude.{ℕ, zero, suc, ◌<◌, ◌≤◌, cond, List, [], ◌∷◌, length, ◌==◌, slice_index_or, slice_set}
+use Rattle.std.specs.Prelude.{ℕ, zero, suc, ◌≤◌, List, [], ◌∷◌, length, slice_index_or, slice_set}
 use Rattle.std.specs.List.{AllByRecursion}
 use Rattle.field.specs.Ops.{Ops}
-use Rattle.equivalence.specs.Automata.{Rule}
 use Rattle.equivalence.specs.Entries.{Entry}
-use Rattle.equivalence.specs.Valuing.{through}
-
--- a vector of codes below q, and vectors of them
-abbrev pub AllBelow : ℕ → List ℕ → Type 0
-AllBelow q xs = AllByRecursion (λ x. x < q) xs
-
-abbrev pub Codes : ℕ → List (List ℕ) → Type 0
-Codes q vs = AllByRecursion (AllBelow q) vs
 
 -- the child numbers of an entry are 0 or name one of the vectors
 abbrev pub Earlier : List (List ℕ) → Entry → Type 0
 Earlier vs e = AllByRecursion (λ c. c ≤ length vs) e.children
 
--- the child states of a rule are among n
-abbrev pub States : ℕ → Rule ℕ → Type 0
-States n r = AllByRecursion (λ s. (1 ≤ s) × (s ≤ n)) r.children
+-- the numbers are among those from 1 to n
+abbrev pub Among : ℕ → List ℕ → Type 0
+Among n ss = AllByRecursion (λ s. (1 ≤ s) × (s ≤ n)) ss
 
--- how many numbers stand before the first 0
-abbrev pub arity_of : List ℕ → ℕ
-arity_of [] = 0
-arity_of (zero ∷ cs) = 0
-arity_of (suc c ∷ cs) = suc (arity_of cs)
+-- the numbers before the first 0
+abbrev pub named : List ℕ → List ℕ
+named [] = []
+named (zero ∷ cs) = []
+named (suc c ∷ cs) = suc c ∷ named cs
 
 -- x added to the element of a state, of the states numbered from 1; a vector that lacks the state stays as it is
 abbrev pub added : Ops ℕ → ℕ → ℕ → List ℕ → List ℕ
 added o zero x vector = vector
 added o (suc at) x vector = slice_set vector at (o.sum x (slice_index_or vector at o.nil))
-
--- the vector of an entry after one rule more: of the entry's symbol, it adds its weight times the product through the children
-abbrev pub led : Ops ℕ → List (List ℕ) → Entry → Rule ℕ → List ℕ → List ℕ
-led o vs e r vector =
-    cond (r.symbol == e.symbol) (added o r.target (o.prod r.weight (through o vs e.children r.children)) vector) vector

@@ -1,22 +1,23 @@
 // The vector of an entry, from those of the entries before it.
-ghost use Rattle.std.specs.Prelude.{◌≡◌, ◌<◌, length, take};
+ghost use Rattle.std.specs.Prelude.{◌≡◌, ◌<◌, [], ◌∷◌, ◌++◌, length, take};
 ghost use Rattle.automaton.specs.Tables.{automaton_of, entry_of};
-ghost use Rattle.equivalence.specs.Automata.{Sound, SoundRule, states as many};
+ghost use Rattle.equivalence.specs.Automata.{Sound, states as many};
 ghost use Rattle.equivalence.specs.Valuing.{entry_vector};
 ghost use Rattle.field.specs.Algebra.{ops};
-ghost use Rattle.rules.specs.Rules.{rule_model};
+ghost use Rattle.field.specs.Codes.{AllBelow, Codes};
 ghost use Rattle.vectors.specs.Tables.{vectors_of, width_of};
-ghost use Rattle.entry_vectors.specs.Combining.{AllBelow, Codes, Earlier, added, led};
+ghost use Rattle.entry_vectors.specs.Combining.{Earlier, added};
 
-use crate::product::through;
-use automaton::tables::{Automaton, Entry};
+use crate::Valuation;
+use crate::product::children;
+use automaton::{Automaton, Entry};
 use field::Field;
-use rules::tables::Rule;
-use vectors::tables::Vectors;
+use vectors::Vectors;
 
 // Adds to the element of a state, if the vector has one.
 fn add_at<F: Field>(f: &F, vector: &mut [u32], state: u32, x: u32)
-    requires { (F.Field.valid f.now) × ((x < (F.Field.model f.now).size) × (AllBelow (F.Field.model f.now).size vector.old)) }
+    requires code { x < (F.Field.model f.now).size }
+    requires codes { AllBelow (F.Field.model f.now).size vector.old }
     ensures value { vector.new ≡ added (ops (F.Field.model f.now)) state x vector.old }
     ensures below { AllBelow (F.Field.model f.now).size vector.new }
 {
@@ -27,29 +28,61 @@ fn add_at<F: Field>(f: &F, vector: &mut [u32], state: u32, x: u32)
     vector[at] = f.add(x, vector[at]);
 }
 
-// Adds what a rule of the entry's symbol gives, to the element of the state that it leads to.
-fn lead<F: Field>(f: &F, earlier: &Vectors, e: &Entry, rule: &Rule, vector: &mut [u32])
-    requires { (F.Field.valid f.now) × ((Codes (F.Field.model f.now).size (vectors_of earlier.now)) × ((Earlier (vectors_of earlier.now) (entry_of e.now)) × ((SoundRule (F.Field.model f.now).size (width_of earlier.now) (rule_model rule.now)) × (AllBelow (F.Field.model f.now).size vector.old)))) }
-    ensures value { vector.new ≡ led (ops (F.Field.model f.now)) (vectors_of earlier.now) (entry_of e.now) (rule_model rule.now) vector.old }
-    ensures below { AllBelow (F.Field.model f.now).size vector.new }
-{
-    if rule.symbol == e.symbol {
-        let x = f.mul(rule.weight, through(f, earlier, e, rule));
-        add_at(f, vector, rule.target, x);
+impl<'a, F: Field> Valuation<'a, F> {
+    // The vectors of no entry.
+    pub fn new(field: &'a F, automaton: &'a Automaton) -> Valuation<'a, F>
+        requires { Sound (F.Field.model field.now).size (automaton_of automaton.now) }
+        ensures field { result.field.now ≡ field.now }
+        ensures automaton { result.automaton.now ≡ automaton.now }
+        ensures vectors { vectors_of result.vectors ≡ [] }
+    {
+        Self::over(field, automaton, Vectors::empty(automaton.state_count()))
     }
-}
 
-// The vector of a symbol over the vectors of its children, in the first places, as many as there are states.
-pub fn entry_vector<F: Field>(f: &F, m: &Automaton, e: &Entry, earlier: &Vectors) -> [u32; 12]
-    requires { (F.Field.valid f.now) × ((Sound (F.Field.model f.now).size (automaton_of m.now)) × ((Codes (F.Field.model f.now).size (vectors_of earlier.now)) × ((width_of earlier.now ≡ many (automaton_of m.now)) × (Earlier (vectors_of earlier.now) (entry_of e.now))))) }
-    ensures value { take (many (automaton_of m.now)) result ≡ entry_vector (ops (F.Field.model f.now)) (automaton_of m.now) (vectors_of earlier.now) (entry_of e.now) }
-    ensures below { AllBelow (F.Field.model f.now).size result }
-    ensures places { length result ≡ 12 }
-{
-    let rules = m.rules();
-    let mut vector = [0; 12];
-    for i in (0..rules.len()).rev() {
-        lead(f, earlier, e, &rules[i], &mut vector);
+    // The vectors given, of codes of the field, with an element for each state.
+    pub fn over(field: &'a F, automaton: &'a Automaton, vectors: Vectors) -> Valuation<'a, F>
+        requires sound { Sound (F.Field.model field.now).size (automaton_of automaton.now) }
+        requires codes { Codes (F.Field.model field.now).size (vectors_of vectors) }
+        requires wide { width_of vectors ≡ many (automaton_of automaton.now) }
+        ensures field { result.field.now ≡ field.now }
+        ensures automaton { result.automaton.now ≡ automaton.now }
+        ensures vectors { result.vectors ≡ vectors }
+    {
+        Valuation {
+            field,
+            automaton,
+            vectors,
+        }
     }
-    vector
+
+    // The vector of one entry more.
+    pub fn push(&mut self, e: &Entry)
+        requires room { length (vectors_of self.old.vectors) < 64 }
+        requires earlier { Earlier (vectors_of self.old.vectors) (entry_of e.now) }
+        ensures field { self.new.field.now ≡ self.old.field.now }
+        ensures automaton { self.new.automaton.now ≡ self.old.automaton.now }
+        ensures vectors { vectors_of self.new.vectors ≡ vectors_of self.old.vectors ++ (entry_vector (ops (F.Field.model self.old.field.now)) (automaton_of self.old.automaton.now) (vectors_of self.old.vectors) (entry_of e.now) ∷ []) }
+    {
+        let vector = self.vector(e);
+        self.vectors.push(&vector);
+    }
+
+    // The vector of a symbol over the vectors of its children, in the first places, as many as there are states.
+    pub fn vector(&self, e: &Entry) -> [u32; 12]
+        requires earlier { Earlier (vectors_of self.now.vectors) (entry_of e.now) }
+        ensures value { take (many (automaton_of self.now.automaton.now)) result ≡ entry_vector (ops (F.Field.model self.now.field.now)) (automaton_of self.now.automaton.now) (vectors_of self.now.vectors) (entry_of e.now) }
+        ensures below { AllBelow (F.Field.model self.now.field.now).size result }
+        ensures places { length result ≡ 12 }
+    {
+        let children = children(e);
+        let mut vector = [0; 12];
+        for rule in self.automaton.rules().iter().rev() {
+            if rule.symbol == e.symbol {
+                let product = self.through(children, rule.children.items());
+                let x = self.field.mul(rule.weight, product);
+                add_at(self.field, &mut vector, rule.target, x);
+            }
+        }
+        vector
+    }
 }

@@ -1,41 +1,40 @@
 // The product of the elements of children.
-ghost use Rattle.std.specs.Prelude.{◌≡◌, ◌<◌, ◌≤◌};
-ghost use Rattle.automaton.specs.Tables.{entry_of};
-ghost use Rattle.equivalence.specs.Valuing.{through as product_through};
+ghost use Rattle.std.specs.Prelude.{◌≡◌, ◌<◌, length};
+ghost use Rattle.automaton.specs.Tables.{automaton_of};
+ghost use Rattle.equivalence.specs.Automata.{states as many};
+ghost use Rattle.equivalence.specs.Valuing.{through};
 ghost use Rattle.field.specs.Algebra.{ops};
-ghost use Rattle.rules.specs.Rules.{rule_model};
-ghost use Rattle.vectors.specs.Tables.{vectors_of, width_of};
-ghost use Rattle.entry_vectors.specs.Combining.{Codes, Earlier, States, arity_of};
+ghost use Rattle.vectors.specs.Tables.{vectors_of};
+ghost use Rattle.entry_vectors.specs.Combining.{Among, named};
 
-use automaton::tables::Entry;
+use crate::Valuation;
+use automaton::Entry;
 use field::Field;
-use rules::tables::Rule;
-use vectors::tables::Vectors;
 
-// How many children an entry has: its child numbers before the first 0.
-fn arity(e: &Entry) -> usize
-    ensures is { result ≡ arity_of e.now.children }
-    ensures few { result ≤ 3 }
+// The children of an entry: its child numbers before the first 0.
+pub(crate) fn children(e: &Entry) -> &[u32]
+    ensures { result.now ≡ named e.now.children }
 {
-    for i in 0..3 {
-        if e.children[i] == 0 {
-            return i;
-        }
-    }
-    3
+    let arity = e.children.iter().position(|c| *c == 0).unwrap_or(3);
+    &e.children[..arity]
 }
 
-// The product of the children's elements at the rule's child states, and zero where there are not as many of these.
-pub(crate) fn through<F: Field>(f: &F, earlier: &Vectors, e: &Entry, rule: &Rule) -> u32
-    requires { (F.Field.valid f.now) × ((Codes (F.Field.model f.now).size (vectors_of earlier.now)) × ((Earlier (vectors_of earlier.now) (entry_of e.now)) × (States (width_of earlier.now) (rule_model rule.now)))) }
-    ensures value { result ≡ product_through (ops (F.Field.model f.now)) (vectors_of earlier.now) (entry_of e.now).children (rule_model rule.now).children }
-    ensures below { result < (F.Field.model f.now).size }
-{
-    let n = arity(e);
-    let m = if n < rule.count { n } else { rule.count };
-    let mut p = if n == rule.count { 1 } else { 0 };
-    for j in (0..m).rev() {
-        p = f.mul(earlier.element(e.children[j], rule.children[j]), p);
+impl<'a, F: Field> Valuation<'a, F> {
+    // The product of the children's elements at these states, and zero where there are not as many states as children.
+    pub(crate) fn through(&self, children: &[u32], states: &[u32]) -> u32
+        requires children { Among (length (vectors_of self.now.vectors)) children.now }
+        requires states { Among (many (automaton_of self.now.automaton.now)) states.now }
+        ensures value { result ≡ through (ops (F.Field.model self.now.field.now)) (vectors_of self.now.vectors) children.now states.now }
+        ensures below { result < (F.Field.model self.now.field.now).size }
+    {
+        if children.len() != states.len() {
+            return 0;
+        }
+        let mut product = 1;
+        for (child, state) in children.iter().rev().zip(states.iter().rev()) {
+            let x = self.vectors.element(*child, *state);
+            product = self.field.mul(x, product);
+        }
+        product
     }
-    p
 }

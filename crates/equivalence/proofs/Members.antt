@@ -1,5 +1,5 @@
 -- Joined lists and filters: what they hold and how long they are; and the numbers 1 to n. Assumes nothing.
-use Rattle.std.proofs.Common.{◌≡◌, ℕ, zero, suc, ◌+◌, ◌*◌, ◌≤◌, Bool, true, false, cond, List, [], ◌∷◌, ◌++◌, map, length, fold, sum_by, filter, sym, refl, ap, ◌∙◌, subst, ⊎_elim, zero-mul, arith, length-append}
+use Rattle.std.proofs.Common.{◌≡◌, ℕ, zero, suc, ◌+◌, ◌*◌, ◌≤◌, Bool, true, false, cond, List, [], ◌∷◌, ◌++◌, map, length, sum_by, filter, sym, refl, ap, ◌∙◌, subst, ⊎_elim, zero-mul, arith, length-append}
 use lib.ListN.{length-map}
 use Rattle.std.specs.List.{ContainsAt as Has, flat_map, AllByRecursion}
 use Rattle.std.proofs.lemmas.List.{get_or-map, length_push}
@@ -63,10 +63,6 @@ module _ {X Y : Type 0} (f : X → Y) where
   pub kept_by_map : (p : Y → Bool) (xs : List X) → filter p (map f xs) ≡ map f (filter (λ x. p (f x)) xs)
   kept_by_map p [] = refl
   kept_by_map p (x ∷ xs) = rw (kept_by_map p xs) (map_cond (p (f x)) x _)
-
-  pub folded_map : {Z : Type 0} (g : Z → Y → Z) (z : Z) (xs : List X) → fold (λ z x. g z (f x)) z xs ≡ fold g z (map f xs)
-  folded_map g z [] = refl
-  folded_map g z (x ∷ xs) = folded_map g (g z (f x)) xs
 
 module _ {X A : Type 0} (f : X → List A) where
   pub all_joined : (P : A → Type 0) (xs : List X) → AllByRecursion (λ x. AllByRecursion P (f x)) xs → AllByRecursion P (flat_map f xs)

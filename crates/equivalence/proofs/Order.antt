@@ -8,13 +8,14 @@ use Rattle.std.specs.List.{ContainsAt as Has, AllByRecursion}
 use Rattle.std.proofs.lemmas.List.{append-nil, map_push, flat_map_more, get_or_append_left, get_or-append_right}
 use Rattle.std.proofs.ByRecursion.{All-map, All-weaker, All-get_or, all_kept_by, kept_by_passes, has_append_left, has_append_right, has_push}
 use Rattle.std.proofs.lemmas.List.Filters.{length-filter_both}
+use Rattle.std.proofs.lemmas.List.Folds.{fold-map}
 use Rattle.std.proofs.lemmas.List.Sums.{sum_by-cons}
 use Rattle.std.proofs.lemmas.Bool.{cases_Bool, cases_lt, eqb-false, eq-eqb, ne_eqb, or_parts, false≢true}
 use Rattle.equivalence.specs.Automata.{numbers}
 use Rattle.equivalence.specs.Trees.{rank, Declared}
 use Rattle.equivalence.specs.Tries.{Try, rows, occurs, rows_in_turn, tries_of, turn, turns, all_tries}
 use Rattle.equivalence.proofs.Members.{all_both, all_joined, all_numbers, has_map, has_joined, has_kept_by, has_numbers}
-use Rattle.equivalence.proofs.Members.{kept_by_joined, kept_by_map, kept_by_none, joined_same, folded_map}
+use Rattle.equivalence.proofs.Members.{kept_by_joined, kept_by_map, kept_by_none, joined_same}
 use Rattle.equivalence.proofs.Members.{length_joined, length_numbers, sumBy_constant, sumBy_sums}
 
 -- the numbers of a row lie from 1 to m
@@ -83,7 +84,7 @@ turn_length : (ranks : List ℕ) (i : ℕ) → length (turn ranks i) ≡ sum_by 
 turn_length ranks i =
     let count : ℕ → ℕ = λ k. length (rows_in_turn i k) in
     length_joined (tries_in ranks i) (λ s. count (rank ranks s)) (λ s. length-map _ _) (numbers (length ranks))
-    ∙ folded_map (rank ranks) (λ n k. n + count k) 0 (numbers (length ranks))
+    ∙ sym (fold-map (λ n k. n + count k) (rank ranks) 0 (numbers (length ranks)))
     ∙ ap (sum_by count) (ranks_of_numbers ranks (length ranks) (omega arith) ∙ take-length ranks)
 
 all_tries_sum : (d : ℕ) (ks : List ℕ) → sum_by (λ k. d ^ k) ks ≡ all_tries d ks

@@ -13,17 +13,6 @@ use Rattle.equivalence.specs.Theorems.{ValuesOfEntries}
 use Rattle.equivalence.specs.Valuing.{through, entry_vector, vectors_from, vectors_of, last_or, value_of}
 use Rattle.equivalence.proofs.Values.{Bounded, State, getD_vector, element_by}
 
--- one more entry: its tree, and its vector, come last
-pub grown_push :
-    (ts : List Tree) (es : List Entry) (e : Entry)
-    → grown ts (es ++ (e ∷ [])) ≡ grown ts es ++ (node e.symbol (named (grown ts es) e.children) ∷ [])
-grown_push ts [] e = refl
-grown_push ts (d ∷ es) e = grown_push (ts ++ (node d.symbol (named ts d.children) ∷ [])) es e
-
-pub trees_push :
-    (es : List Entry) (e : Entry) → trees (es ++ (e ∷ [])) ≡ trees es ++ (node e.symbol (named (trees es) e.children) ∷ [])
-trees_push = grown_push []
-
 pub length_grown : (ts : List Tree) (es : List Entry) → length (grown ts es) ≡ length ts + length es
 length_grown ts [] = omega arith
 length_grown ts (e ∷ es) =
@@ -44,6 +33,7 @@ children_earlier ranks n e h =
     (All-weaker _ _ (λ c z. omega arith) _ h.rest))
 
 module _ {K : Type 0} (o : Ops K) (M : Automaton K) where
+  -- one more entry: its vector comes last
   pub vectors_from_push :
       (vs : List (List K)) (es : List Entry) (e : Entry)
       → vectors_from o M vs (es ++ (e ∷ [])) ≡ vectors_from o M vs es ++ (entry_vector o M (vectors_from o M vs es) e ∷ [])

@@ -5,49 +5,44 @@
 ghost use Rattle.std.specs.Prelude.{◌≡◌, ◌<◌, IfSome};
 ghost use Rattle.field.specs.Algebra.{Algebra, Lawful, inverse, Quotient};
 
+// Every value of a type that implements it is a field. That codes are below the size is asked by each operation: it depends on the
+// field's value, and no type does.
 pub trait Field {
-    // Which values of the type are fields.
-    ghost valid: { Self → Type 0 };
-
     // The size, and sum, product and negative of codes.
     ghost model: { Self → Algebra };
 
     // The number of elements.
     fn size(&self) -> u64
-        requires { valid self.now }
         ensures { result ≡ (model self.now).size };
 
     fn add(&self, a: u32, b: u32) -> u32
-        requires { (valid self.now) × ((a < (model self.now).size) × (b < (model self.now).size)) }
+        requires { (a < (model self.now).size) × (b < (model self.now).size) }
         ensures value { result ≡ (model self.now).sum a b }
         ensures below { result < (model self.now).size };
 
     fn mul(&self, a: u32, b: u32) -> u32
-        requires { (valid self.now) × ((a < (model self.now).size) × (b < (model self.now).size)) }
+        requires { (a < (model self.now).size) × (b < (model self.now).size) }
         ensures value { result ≡ (model self.now).prod a b }
         ensures below { result < (model self.now).size };
 
     fn neg(&self, a: u32) -> u32
-        requires { (valid self.now) × (a < (model self.now).size) }
+        requires { a < (model self.now).size }
         ensures value { result ≡ (model self.now).opp a }
         ensures below { result < (model self.now).size };
 
     // The element whose product with a is one; zero has none.
     fn inv(&self, a: u32) -> Option<u32>
-        requires { (valid self.now) × (a < (model self.now).size) }
+        requires { a < (model self.now).size }
         ensures value { result ≡ inverse (model self.now) a }
         ensures below { IfSome result (λ b. b < (model self.now).size) };
 
-    ghost laws: { (f : Self) → valid f → Lawful (model f) };
+    ghost laws: { (f : Self) → Lawful (model f) };
 }
 
 // a divided by b, in any field.
 pub fn divide<F: Field>(f: &F, a: u32, b: u32) -> Option<u32>
-    requires { (F.Field.valid f.now) × ((a < (F.Field.model f.now).size) × (b < (F.Field.model f.now).size)) }
+    requires { (a < (F.Field.model f.now).size) × (b < (F.Field.model f.now).size) }
     ensures { Quotient (F.Field.model f.now) a b result }
 {
-    match f.inv(b) {
-        Some(c) => Some(f.mul(a, c)),
-        None => None,
-    }
+    Some(f.mul(a, f.inv(b)?))
 }

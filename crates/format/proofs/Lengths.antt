@@ -8,16 +8,20 @@ use Rattle.words.specs.Words.{is_name, spaced}
 use Rattle.words.proofs.Names.{named}
 use Rattle.words.proofs.Numbers.{decimal_short}
 use Rattle.equivalence.specs.Automata.{Rule}
-use Rattle.format.specs.Lines.{Block, Side, Line, fields, steps, symbols, states, rules, A, B, opens, names_field, extends_by, declares_symbol, declares_state, gives_rule, heading, letter, line_fields, written, text_of_lines, Formed}
+use Rattle.format.specs.Lines.{Block, Side, Line, fields, steps, symbols, states, rules, A, B, opens, names_field, extends_by, declares_symbol, declares_state, gives_rule, heading, letter, line_fields, text_of_lines, Formed}
 use Rattle.format.specs.Records.{Symbol, State, Record, field_of, part, ValidRule, ValidPart, ValidRecord, rule_line, state_lines, rule_lines, lines_of, text_of}
 use Rattle.format.specs.Reading.{Draft, blank, after, Reads}
 
 -- a field of a line is short
-abbrev Short : List ℕ → Type 0
+abbrev pub Short : List ℕ → Type 0
 Short f = length f ≤ 10
 
+-- a line has few fields, and short ones
+abbrev pub Narrow : Line → Type 0
+Narrow l = AllByRecursion Short (line_fields l) × (length (line_fields l) ≤ 7)
+
 -- a line has at most three children
-abbrev Few : Line → Type 0
+abbrev pub Few : Line → Type 0
 Few (opens b) = Unit {0}
 Few (names_field k n) = Unit {0}
 Few (extends_by u v) = Unit {0}
@@ -35,7 +39,7 @@ heading_short symbols = omega arith
 heading_short states = omega arith
 heading_short rules = omega arith
 
-letter_short : (d : Side) → Short (letter d)
+pub letter_short : (d : Side) → Short (letter d)
 letter_short A = omega arith
 letter_short B = omega arith
 
@@ -71,23 +75,27 @@ spaced_short (f ∷ g ∷ fs) h =
     let more = spaced_short (g ∷ fs) h.1 in
     omega (arith, length-append f (32 ∷ spaced (g ∷ fs)))
 
-line_short : (l : Line) → Formed l → Few l → length (written l) ≤ 77
-line_short l f h = omega (arith, spaced_short (line_fields l) (fields_short l f), fields_few l h)
+pub lines_short : (ls : List Line) → AllByRecursion Narrow ls → length (text_of_lines ls) ≤ 78 * length ls
+lines_short [] h = omega arith
+lines_short (l ∷ ls) h =
+    let more = lines_short ls h.1 in
+    let here = spaced_short (line_fields l) h.0.0 in
+    simp length-append (omega (arith, h.0.1))
 
-lines_short : (ls : List Line) → AllByRecursion Formed ls → AllByRecursion Few ls → length (text_of_lines ls) ≤ 78 * length ls
-lines_short [] f h = omega arith
-lines_short (l ∷ ls) f h =
-    let more = lines_short ls f.1 h.1 in
-    let here = line_short l f.0 h.0 in
-    simp length-append (omega arith)
+pub formed_narrow : (l : Line) → Formed l → Few l → Narrow l
+formed_narrow l f h = (fields_short l f, fields_few l h)
+
+all_narrow : (ls : List Line) → AllByRecursion Formed ls → AllByRecursion Few ls → AllByRecursion Narrow ls
+all_narrow [] f h = tt
+all_narrow (l ∷ ls) f h = (formed_narrow l f.0 h.0, all_narrow ls f.1 h.1)
 
 reads_formed : (d : Draft) (ls : List Line) (e : Draft) → Reads d ls e → AllByRecursion Formed ls
 reads_formed d [] e r = tt
 reads_formed d (l ∷ ls) e r = (r.0, reads_formed (after d l) ls e r.3)
 
-all_mapped : {X : Type 0} (line : X → Line) → ((x : X) → Few (line x)) → (xs : List X) → AllByRecursion Few (map line xs)
-all_mapped line h [] = tt
-all_mapped line h (x ∷ xs) = (h x, all_mapped line h xs)
+all_mapped : (P : Line → Type 0) {X : Type 0} (line : X → Line) → ((x : X) → P (line x)) → (xs : List X) → AllByRecursion P (map line xs)
+all_mapped P line h [] = tt
+all_mapped P line h (x ∷ xs) = (h x, all_mapped P line h xs)
 
 module _ (r : Record) (v : ValidRecord r) where
   lines_few : length (lines_of r) ≤ 556
@@ -96,7 +104,7 @@ module _ (r : Record) (v : ValidRecord r) where
       (omega (arith, v.at_most_two, v.few, v.a.few, v.b.few, v.a.few_rules, v.b.few_rules))
 
   states_few : (x : Side) → AllByRecursion Few (state_lines r x)
-  states_few x = all_mapped (λ (s : State). declares_state x s.name s.final) (λ s. tt) (part r x).states
+  states_few x = all_mapped Few (λ (s : State). declares_state x s.name s.final) (λ s. tt) (part r x).states
 
   rule_few : (x : Side) (n : ℕ) (u : Rule ℕ) → ValidRule (field_of r).size r.symbols n u → Few (rule_line r x u)
   rule_few x n u h =
@@ -114,9 +122,9 @@ module _ (r : Record) (v : ValidRecord r) where
       tt,
       (
         tt,
-        All-append Few _ _ (all_mapped (λ (s : ℕ × ℕ). extends_by s.0 s.1) (λ s. tt) r.steps) (
+        All-append Few _ _ (all_mapped Few (λ (s : ℕ × ℕ). extends_by s.0 s.1) (λ s. tt) r.steps) (
           tt,
-          All-append Few _ _ (all_mapped (λ (s : Symbol). declares_symbol s.name s.rank) (λ s. tt) r.symbols) (
+          All-append Few _ _ (all_mapped Few (λ (s : Symbol). declares_symbol s.name s.rank) (λ s. tt) r.symbols) (
             tt,
             All-append Few _ _ (All-append Few _ _ (states_few A) (states_few B))
                 (tt, All-append Few _ _ (rules_few A v.a) (rules_few B v.b)),
@@ -127,4 +135,5 @@ module _ (r : Record) (v : ValidRecord r) where
   )
 
   pub text_short : (e : Draft) → Reads blank (lines_of r) e → length (text_of r) ≤ 65536
-  text_short e reads = omega (arith, lines_short (lines_of r) (reads_formed blank (lines_of r) e reads) all_few, lines_few)
+  text_short e reads =
+      omega (arith, lines_short (lines_of r) (all_narrow (lines_of r) (reads_formed blank (lines_of r) e reads) all_few), lines_few)

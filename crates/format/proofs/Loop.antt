@@ -21,9 +21,6 @@ abbrev pub ReadSoFar : List ℕ → List ℕ → Draft → ℕ → Type 0
 ReadSoFar text rest d n =
     (ls : List Line) × (text ≡ text_of_lines ls ++ rest) × Reads blank ls d × (n ≡ length ls)
 
-pub so_far_none : (text : List ℕ) → ReadSoFar text text blank 0
-so_far_none text = ([], refl, refl, refl)
-
 pub so_far_more :
     (text rest bytes more : List ℕ) (d : Draft) (n : ℕ) (l : Line)
     → ReadSoFar text rest d n

@@ -57,11 +57,9 @@ fn cyclic_power(n: u32) -> u32
 }
 
 impl Field for Byte {
-    ghost valid = { λ _. Unit {0} };
-
     ghost model = { λ _. gf256 };
 
-    ghost laws = { λ f h. Laws.field };
+    ghost laws = { λ f. Laws.field };
 
     fn size(&self) -> u64 {
         256

@@ -1,19 +1,13 @@
--- What a write leaves, and the bytes of each line.
-use Rattle.std.specs.Prelude.{◌≡◌, ℕ, ◌+◌, ◌-◌, List, [], ◌∷◌, ◌++◌, map, length, slice_index_or}
+-- The bytes of each line.
+use Rattle.std.specs.Prelude.{ℕ, ◌-◌, List, [], ◌∷◌, ◌++◌, map, slice_index_or}
 use Rattle.equivalence.specs.Automata as automata
-use Rattle.words.specs.Puts.{overlaid}
 use Rattle.format.specs.Lines as lines
 use Rattle.format.specs.Records as records
 use Rattle.rules.specs.Rules.{rule_model}
-use Rattle.rules.specs.declared.tables.Rule.{Rule}
+use Rattle.rules.specs.declared.Rule.{Rule}
 use Rattle.tables.specs.Tables.{symbol_of, state_of}
 use Rattle.tables.specs.declared.Symbol.{Symbol}
 use Rattle.tables.specs.declared.State.{State}
-
--- a write of the bytes from place `at` on, as far as the buffer reaches; the next place may be past its end
-pub record Puts (before : List ℕ) (at : ℕ) (bytes : List ℕ) (next : ℕ) (after : List ℕ) : Type 0 where
-  pub place : next ≡ at + length bytes
-  pub put : after ≡ overlaid before at bytes
 
 -- a line with its line feed
 abbrev pub ended : lines.Line → List ℕ

@@ -1,37 +1,36 @@
 -- The children of a rule: names parted by spaces.
-use Rattle.std.proofs.Common.{◌≡◌, ℕ, ◌<◌, Bool, true, ◌&&◌, List, [], ◌∷◌, length, decimal, Decides, sym, refl, ap, ◌∙◌, subst, arith, length-append}
-use mathlib.Core.Bool.{and-true}
-use Rattle.std.specs.List.{list_all, AllByRecursion}
-use Rattle.std.proofs.ByRecursion.{Decides-by_and}
+use Rattle.std.proofs.Common.{◌≡◌, ℕ, ◌<◌, Bool, true, false, List, [], ◌∷◌, length, decimal, Decides, sym, refl, ap, ◌∙◌, subst, arith, length-append}
+use Rattle.std.specs.Prelude.{◌==◌, MatchBool}
+use Rattle.std.specs.List.{slice_split, onto_first, AllWithin, HoldsAt}
+use Rattle.std.proofs.ByRecursion.{All-from_get_or, All-get_or}
+use Rattle.std.proofs.lemmas.Bool.{both_ways}
 use Rattle.words.specs.Words.{is_name, spaced, Lacks, Cut, Number}
 use Rattle.words.proofs.Numbers.{decimal_field}
-use Rattle.lines.specs.Recognized.{parted}
+use Rattle.lines.specs.Recognized.{onto, parted}
 use Rattle.lines.specs.Fields.{Ends, Names}
 use Rattle.lines.proofs.Pieces.{pieces, parted_cut, pieces_one, pieces_cut, pieces_some, pieces_spaced, spaced_pieces, parted_spaced, fields_lack, names_fields}
 
--- whether each piece is a name
-abbrev pub names : List ℕ → Bool
-names xs = list_all is_name (pieces xs)
+onto_is : (x : ℕ) (ps : List (List ℕ)) → onto x ps ≡ onto_first x ps
+onto_is x [] = refl
+onto_is x (p ∷ ps) = refl
 
-pub names_cut : (xs front rest : List ℕ) → Cut 32 xs front rest → (b : Bool) → b ≡ is_name front → names xs ≡ b && names rest
-names_cut xs front rest (e, h) b t = rw (e, pieces_cut front rest h, t)
+-- the pieces are what `split` gives
+pub pieces_split : (xs : List ℕ) → pieces xs ≡ slice_split (λ b. b == 32) xs
+pieces_split [] = refl
+pieces_split (x ∷ xs) = rw (pieces_split xs, onto_is x (slice_split (λ b. b == 32) xs))
 
-pub names_last : (xs : List ℕ) → Lacks 32 xs → names xs ≡ is_name xs
-names_last xs h = rw (pieces_one xs h, and-true)
-
-all_names : (cs : List (List ℕ)) → Decides (list_all is_name cs) (AllByRecursion (λ c. is_name c ≡ true) cs)
-all_names = Decides-by_and is_name (λ c. is_name c ≡ true) (list_all is_name) (λ c. (λ h. h, λ h. h)) refl (λ _ _. refl)
-
-names_decide : (xs : List ℕ) → Decides (names xs) (Names xs)
-names_decide xs = (
-  λ h. (pieces xs, pieces_some xs, (all_names (pieces xs)).0 h, spaced_pieces xs),
-  λ (cs, some, h, e).
-      let p = pieces_spaced cs some (fields_lack cs (names_fields cs h)) in
-      subst (λ ps. list_all is_name ps ≡ true) (sym p ∙ ap pieces e) ((all_names cs).1 h),
+-- whether each of the pieces is a name tells whether the text is names
+pub names_tell : (xs : List ℕ) (ps : List (List ℕ)) → pieces xs ≡ ps → (r : Bool) → MatchBool r (AllWithin (λ p. is_name p ≡ true) ps 0 (length ps)) ((k : ℕ) × (k < length ps) × HoldsAt (λ p. is_name p ≡ false) ps k) → Decides r (Names xs)
+names_tell xs ps e true h = (
+  λ _. (ps, subst (λ qs. 0 < length qs) e (pieces_some xs), All-from_get_or _ ps [] (λ k less. h k [] (omega arith) less), ap spaced (sym e) ∙ spaced_pieces xs),
+  λ _. refl,
 )
-
-pub names_tell : (xs : List ℕ) (r : Bool) → names xs ≡ r → Decides r (Names xs)
-names_tell xs r e = subst (λ b. Decides b (Names xs)) e (names_decide xs)
+names_tell xs ps e false (k, less, out) = (
+  λ h. absurd (both_ways false refl h),
+  λ (cs, some, named, i).
+      let p : ps ≡ cs = sym e ∙ ap pieces (sym i) ∙ pieces_spaced cs some (fields_lack cs (names_fields cs named)) in
+      absurd (both_ways _ (out []) (All-get_or (λ c. is_name c ≡ true) ps k [] less (rw p named))),
+)
 
 -- a rule's weight before children, and what the end of its line says of the parts
 pub ends_with : (rest last children : List ℕ) (w : ℕ) → Cut 32 rest last children → Names children → Number last w → Ends rest w (parted children)

@@ -4,8 +4,8 @@ use Rattle.format.specs.Lines.{A, B, fields, steps, symbols, states, rules, open
 use Rattle.format.specs.Lines.{Block as Opened, Side as Sided, Line as Meant}
 use Rattle.lines.specs.declared.line.Block.{Block}
 use Rattle.lines.specs.declared.line.Block.TheVariants.{Fields, Steps, Symbols, States, Rules}
-use Rattle.lines.specs.declared.line.Side.{Side}
-use Rattle.lines.specs.declared.line.Side.TheVariants as side
+use Rattle.side.specs.declared.Side.{Side}
+use Rattle.side.specs.declared.Side.TheVariants as side
 use Rattle.lines.specs.declared.line.Line.{Line}
 use Rattle.lines.specs.declared.line.Line.TheVariants.{Heading, Field, Step, Symbol, State, Rule}
 

@@ -5,86 +5,63 @@ ghost use Rattle.format.specs.Lines.{kind_fields, kind_fits, letter, opens, writ
 ghost use Rattle.lines.specs.Fields.{Ends, Names, NamesNone, NoLetter, OpensNone};
 ghost use Rattle.lines.specs.Recognized.{block_of, parted, side_of, Recognized};
 ghost use Rattle.std.specs.List.{AllByRecursion};
-ghost use Rattle.words.specs.Words.{is_name, spaced, Lacks};
+ghost use Rattle.words.specs.Words.{spaced, Lacks};
 
-use crate::line::{Block, Line, Side};
+use crate::line::{Block, Line};
 use shapes::shape::Kind;
-use words::{Name, cut, number, same};
+use side::Side;
+use words::{cut, is_name, number};
 
 // The most pair steps that a field has.
 const MOST_STEPS: u32 = 2;
 
-// The block that the line opens.
+// The block that the line opens. An `Option`, here and below: a `TryFrom` would need an error that says nothing more.
 pub(crate) fn heading(bytes: &[u8]) -> Option<Block>
     ensures { MatchOption result (OpensNone bytes.now) (λ b. written (opens (block_of b)) ≡ bytes.now) }
 {
-    if same(bytes, b"kind p steps") {
-        return Some(Block::Fields);
+    match bytes {
+        b"kind p steps" => Some(Block::Fields),
+        b"u v" => Some(Block::Steps),
+        b"symbol rank" => Some(Block::Symbols),
+        b"side state final" => Some(Block::States),
+        b"side symbol target weight children" => Some(Block::Rules),
+        _ => None,
     }
-    if same(bytes, b"u v") {
-        return Some(Block::Steps);
-    }
-    if same(bytes, b"symbol rank") {
-        return Some(Block::Symbols);
-    }
-    if same(bytes, b"side state final") {
-        return Some(Block::States);
-    }
-    if same(bytes, b"side symbol target weight children") {
-        return Some(Block::Rules);
-    }
-    None
 }
 
 // The side that the field names.
 pub(crate) fn side(first: &[u8]) -> Option<Side>
     ensures { MatchOption result (NoLetter first.now) (λ d. letter (side_of d) ≡ first.now) }
 {
-    if same(first, b"A") {
-        return Some(Side::A);
+    match first {
+        b"A" => Some(Side::A),
+        b"B" => Some(Side::B),
+        _ => None,
     }
-    if same(first, b"B") {
-        return Some(Side::B);
-    }
-    None
 }
 
 // The kind of field that two fields name: `prime` and a modulus, or `byte` and `-`.
 fn kind(first: &[u8], second: &[u8]) -> Option<Kind>
     ensures { MatchOption result (NamesNone first.now second.now) (λ k. kind_fits k × (kind_fields k ≡ first.now ∷ second.now ∷ [])) }
 {
-    if same(first, b"prime") {
-        return Some(Kind::Residues(number(second)?));
+    match (first, second) {
+        (b"prime", p) => Some(Kind::Residues(number(p)?)),
+        (b"byte", b"-") => Some(Kind::Bytes),
+        _ => None,
     }
-    if same(first, b"byte") && same(second, b"-") {
-        return Some(Kind::Bytes);
-    }
-    None
-}
-
-fn is_name(part: &[u8]) -> bool
-    ensures { result ≡ is_name part.now }
-{
-    Name::new(part).is_some()
 }
 
 // Whether the bytes are one name or more, parted by one space.
 fn are_names(part: &[u8]) -> bool
     ensures { Decides result (Names part.now) }
 {
-    let mut rest = part;
-    while let Some((name, more)) = cut(rest, b' ') {
-        if !is_name(name) {
-            return false;
-        }
-        rest = more;
-    }
-    is_name(rest)
+    part.split(|b| *b == b' ').all(|name| is_name(name))
 }
 
 // A line of two fields: a pair step, or a symbol and its rank.
 pub(crate) fn pair<'a>(first: &'a [u8], second: &'a [u8]) -> Option<Line<'a>>
-    requires { (AllByRecursion (Lacks 32) (first.now ∷ second.now ∷ [])) × (OpensNone (spaced (first.now ∷ second.now ∷ []))) }
+    requires fields { AllByRecursion (Lacks 32) (first.now ∷ second.now ∷ []) }
+    requires none { OpensNone (spaced (first.now ∷ second.now ∷ [])) }
     ensures { Recognized (spaced (first.now ∷ second.now ∷ [])) result }
 {
     let last = number(second)?;
@@ -102,7 +79,9 @@ pub(crate) fn pair<'a>(first: &'a [u8], second: &'a [u8]) -> Option<Line<'a>>
 
 // The kind of field and the number of its pair steps.
 pub(crate) fn field<'a>(first: &'a [u8], second: &'a [u8], third: &'a [u8]) -> Option<Line<'a>>
-    requires { (AllByRecursion (Lacks 32) (first.now ∷ second.now ∷ [])) × ((NoLetter first.now) × (OpensNone (spaced (first.now ∷ second.now ∷ third.now ∷ [])))) }
+    requires fields { AllByRecursion (Lacks 32) (first.now ∷ second.now ∷ []) }
+    requires letter { NoLetter first.now }
+    requires none { OpensNone (spaced (first.now ∷ second.now ∷ third.now ∷ [])) }
     ensures { Recognized (spaced (first.now ∷ second.now ∷ third.now ∷ [])) result }
 {
     let kind = kind(first, second)?;

@@ -10,7 +10,8 @@ use words::cut;
 mod kinds;
 mod line;
 
-pub use line::{Block, Line, Side};
+pub use line::{Block, Line};
+pub use side::Side;
 
 // The line that the bytes write, where they write one: told by the number of its fields and by the first.
 pub fn parse(bytes: &[u8]) -> Option<Line<'_>>
@@ -36,11 +37,8 @@ pub fn parse(bytes: &[u8]) -> Option<Line<'_>>
 pub fn first_name(children: &[u8]) -> Option<(&[u8], &[u8])>
     ensures { MatchOption result (children.now ≡ []) (λ p. (parted children.now ≡ p.0.now ∷ parted p.1.now) × (length p.1.now < length children.now)) }
 {
-    if children.len() == 0 {
+    if children.is_empty() {
         return None;
     }
-    match cut(children, b' ') {
-        Some(parts) => Some(parts),
-        None => Some((children, &children[..0])),
-    }
+    Some(cut(children, b' ').unwrap_or((children, &children[..0])))
 }

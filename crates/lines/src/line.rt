@@ -1,5 +1,6 @@
 // What a line says. Names are parts of the text that the line stands in.
 use shapes::shape::Kind;
+use side::Side;
 
 #[derive(Clone, Copy)]
 pub enum Block {
@@ -8,12 +9,6 @@ pub enum Block {
     Symbols,
     States,
     Rules,
-}
-
-#[derive(Clone, Copy)]
-pub enum Side {
-    A,
-    B,
 }
 
 // The children of a rule are one part of the line, names parted by spaces; it is empty where there are none.

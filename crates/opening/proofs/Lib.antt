@@ -1,4 +1,4 @@
 pub mod Elements
-pub mod Opened
+pub mod Standing
 pub mod Records
 pub mod Steps

@@ -2,7 +2,7 @@
 use Rattle.std.specs.Prelude.{ℕ, List, ◌++◌, map}
 use Rattle.equivalence.specs.Automata.{Automaton, Rule, Sides}
 use Rattle.rules.specs.Rules.{rule_model}
-use Rattle.rules.specs.declared.tables.Rule as tables
+use Rattle.rules.specs.declared.Rule as tables
 use Rattle.session.specs.Sessions.{side, with_side}
 use Rattle.tables.specs.declared.State.{State}
 use Rattle.tables.specs.declared.Symbol.{Symbol}

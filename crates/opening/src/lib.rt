@@ -2,6 +2,7 @@
 #![tactic(auto)]
 
 mod giving;
+mod opened;
 mod opening;
 
 pub use opening::{of_record, open};

@@ -3,6 +3,7 @@ ghost use Rattle.std.specs.Prelude.{Decides};
 ghost use Rattle.format.specs.Reading.{Complete, MayFollow};
 ghost use Rattle.lines.specs.Recognized.{line_of};
 ghost use Rattle.drafts.specs.Drafts.{draft_of};
+ghost use Rattle.drafts.specs.declared.Draft.{Draft};
 ghost use Rattle.places.specs.Places.{place_of};
 
 use crate::place::Place;
@@ -40,12 +41,9 @@ pub fn may_follow(draft: &Draft, place: Place, line: Line<'_>) -> bool
     }
 }
 
-// Whether the text may end.
-pub fn is_end(draft: &Draft, place: Place) -> bool
-    ensures { Decides result (Complete (draft_of draft.now (place_of place))) }
+// Whether the text may end, whatever the draft declares.
+pub fn is_end(place: Place) -> bool
+    ensures { (d : Draft) → Decides result (Complete (draft_of d (place_of place))) }
 {
-    match place {
-        Place::Inside(Block::Rules) => true,
-        _ => false,
-    }
+    matches!(place, Place::Inside(Block::Rules))
 }

@@ -42,11 +42,9 @@ impl Prime {
 }
 
 impl Field for Prime {
-    ghost valid = { λ f. Unit {0} };
-
     ghost model = { λ f. residues f.modulus };
 
-    ghost laws = { λ f h. residue_field f.modulus (admitted_prime _ f.listed) (admitted_fits _ f.listed) };
+    ghost laws = { λ f. residue_field f.modulus (admitted_prime _ f.listed) (admitted_fits _ f.listed) };
 
     fn size(&self) -> u64 {
         u64::from(self.modulus)

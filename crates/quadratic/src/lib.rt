@@ -1,22 +1,40 @@
 // The quadratic extension of any field of at most 65,536 elements, itself a field; so it can be extended once more.
 #![tactic(auto)]
 
-ghost use Rattle.std.specs.Prelude.{◌≡◌, ◌*◌, ◌<◌, ◌≤◌, MatchOption};
+ghost use Rattle.std.specs.Prelude.{ℕ, ◌≡◌, ◌*◌, ◌<◌, ◌≤◌, MatchOption, ⊤};
 ghost use Rattle.field.specs.Algebra.{ops};
-ghost use Rattle.extension.specs.Extension.{norm, encode, decode, conjugate_product, extension, LeastRoot, Extends, Valid};
+ghost use Rattle.extension.specs.Extension.{norm, encode, decode, conjugate_product, extension, LeastRoot, Root, Extends};
 ghost use Rattle.extension.proofs.Laws.{extension_lawful};
 
 use field::Field;
+use std::alloc::AllocError;
 
-// a + bω with ω² = uω + v over the base; a base of q elements gives it the code a + q·b.
-#[derive(Clone, Copy)]
-pub struct Pair<F> {
+// a + bω with ω² = uω + v over the base; a base of q elements gives it the code a + q·b. That the base can be extended by u
+// and v is part of the type.
+pub struct Pair<F: Field> {
     base: F,
     u: u32,
     v: u32,
+    ghost small: { (F.Field.model base).size ≤ 65536 },
+    ghost u_below: { u < (F.Field.model base).size },
+    ghost v_below: { v < (F.Field.model base).size },
+    ghost no_root: { (x : ℕ) → x < (F.Field.model base).size → Root (F.Field.model base) u v x → ⊥ },
 }
 
-impl<F> Pair<F> {
+// By hand, since neither is derived over the ghost fields of a generic struct.
+impl<F: Field + Copy> Clone for Pair<F> {
+    ghost is_clone = { λ x y. y ≡ x };
+
+    ghost is_infallible = { λ _. ⊤ };
+
+    fn clone(&self) -> Result<Pair<F>, AllocError> {
+        Ok(*self)
+    }
+}
+
+impl<F: Field + Copy> Copy for Pair<F> {}
+
+impl<F: Field> Pair<F> {
     // The field that it extends.
     pub fn base(&self) -> &F
         ensures { result.now ≡ self.now.base }
@@ -52,8 +70,8 @@ fn join(a: u32, b: u32, q: u64) -> u32
 
 // A root of X² − uX − v in the field, found by trying every element.
 pub fn find_root<F: Field>(f: &F, u: u32, v: u32) -> Option<u32>
-    requires valid { (F.Field.valid f.now) × ((F.Field.model f.now).size ≤ 65536) }
-    requires u_bound { (u < (F.Field.model f.now).size) × (v < (F.Field.model f.now).size) }
+    requires small { (F.Field.model f.now).size ≤ 65536 }
+    requires codes { (u < (F.Field.model f.now).size) × (v < (F.Field.model f.now).size) }
     ensures { LeastRoot (F.Field.model f.now) u v result }
 {
     let q = f.size() as u32;
@@ -68,8 +86,7 @@ pub fn find_root<F: Field>(f: &F, u: u32, v: u32) -> Option<u32>
 // The extension of the base by a root of X² − uX − v, where it has one: the base is small enough, u and v are elements of
 // it, and there is no root in it already.
 pub fn extend<F: Field + Drop>(base: F, u: u32, v: u32) -> Option<Pair<F>>
-    requires { F.Field.valid base }
-    ensures { MatchOption result (Extends (F.Field.model base) u v → ⊥) (λ p. (p ≡ record { base = base; u = u; v = v }) × Valid (F.Field.valid base) (F.Field.model base) u v) }
+    ensures { MatchOption result (Extends (F.Field.model base) u v → ⊥) (λ p. Extends (F.Field.model base) u v × (p.base ≡ base) × (p.u ≡ u) × (p.v ≡ v)) }
 {
     let q = base.size();
     if q > 65536 || u as u64 >= q || v as u64 >= q {
@@ -84,17 +101,17 @@ pub fn extend<F: Field + Drop>(base: F, u: u32, v: u32) -> Option<Pair<F>>
 impl<F: Field> Pair<F> {
     // The extension of the base by a root of X² − uX − v, which has none in the base.
     pub fn new(base: F, u: u32, v: u32) -> Pair<F>
-        requires { (F.Field.valid base) × (Extends (F.Field.model base) u v) }
-        ensures value { result ≡ record { base = base; u = u; v = v } }
-        ensures valid { Valid (F.Field.valid result.base) (F.Field.model result.base) result.u result.v }
+        requires { Extends (F.Field.model base) u v }
+        ensures base { result.base ≡ base }
+        ensures coefficients { (result.u ≡ u) × (result.v ≡ v) }
+        ensures extends { Extends (F.Field.model result.base) result.u result.v }
     {
         Pair { base, u, v }
     }
 
     // a² + abu − b²v
     fn norm(&self, a: u32, b: u32) -> u32
-        requires valid { Valid (F.Field.valid self.now.base) (F.Field.model self.now.base) self.now.u self.now.v }
-        requires a_bound { (a < (F.Field.model self.now.base).size) × (b < (F.Field.model self.now.base).size) }
+        requires { (a < (F.Field.model self.now.base).size) × (b < (F.Field.model self.now.base).size) }
         ensures value { result ≡ norm (ops (F.Field.model self.now.base)) self.now.u self.now.v (a, b) }
         ensures below { result < (F.Field.model self.now.base).size }
     {
@@ -105,8 +122,7 @@ impl<F: Field> Pair<F> {
 
     // The conjugate a + bu − bω times i.
     fn conjugate_times(&self, a: u32, b: u32, i: u32) -> u32
-        requires valid { Valid (F.Field.valid self.now.base) (F.Field.model self.now.base) self.now.u self.now.v }
-        requires a_bound { (a < (F.Field.model self.now.base).size) × ((b < (F.Field.model self.now.base).size) × (i < (F.Field.model self.now.base).size)) }
+        requires { (a < (F.Field.model self.now.base).size) × ((b < (F.Field.model self.now.base).size) × (i < (F.Field.model self.now.base).size)) }
         ensures value { result ≡ conjugate_product (F.Field.model self.now.base) self.now.u (a, b) i }
         ensures below { result < (F.Field.model self.now.base).size * (F.Field.model self.now.base).size }
     {
@@ -117,11 +133,11 @@ impl<F: Field> Pair<F> {
 }
 
 impl<F: Field> Field for Pair<F> {
-    ghost valid = { λ p. Valid (F.Field.valid p.base) (F.Field.model p.base) p.u p.v };
+    ghost use Rattle.quadratic.specs.Known.{extends};
 
     ghost model = { λ p. extension (F.Field.model p.base) p.u p.v };
 
-    ghost laws = { λ f h. extension_lawful (F.Field.model f.base) (F.Field.laws f.base h.base) f.u f.v h.extends };
+    ghost laws = { λ p. extension_lawful (F.Field.model p.base) (F.Field.laws p.base) p.u p.v (extends p) };
 
     fn size(&self) -> u64 {
         let q = self.base.size();
@@ -156,9 +172,7 @@ impl<F: Field> Field for Pair<F> {
     // The conjugate times the inverse of the norm.
     fn inv(&self, x: u32) -> Option<u32> {
         let (a, b) = split(x, self.base.size());
-        match self.base.inv(self.norm(a, b)) {
-            Some(i) => Some(self.conjugate_times(a, b, i)),
-            None => None,
-        }
+        let i = self.base.inv(self.norm(a, b))?;
+        Some(self.conjugate_times(a, b, i))
     }
 }

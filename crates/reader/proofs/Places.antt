@@ -4,8 +4,8 @@ use Rattle.std.proofs.lemmas.Result.{MatchResult-weaker}
 use Rattle.format.specs.Lines.{Line, declares_state, gives_rule}
 use Rattle.format.specs.Reading.{Place, after}
 use Rattle.lines.specs.Recognized.{side_of}
-use Rattle.lines.specs.declared.line.Side.{Side}
-use Rattle.lines.specs.declared.line.Side.TheVariants.{A, B}
+use Rattle.side.specs.declared.Side.{Side}
+use Rattle.side.specs.declared.Side.TheVariants.{A, B}
 use Rattle.drafts.specs.Drafts.{draft_of}
 use Rattle.drafts.specs.Refusals.{Takes}
 use Rattle.drafts.specs.declared.Draft.{Draft}

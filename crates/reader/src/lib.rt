@@ -31,19 +31,18 @@ pub fn read(text: &[u8]) -> Result<Draft, Fault>
             line: 0,
         });
     }
+    // A loop by what `cut` leaves: what follows the last line feed is no line, and its number is wanted after the loop.
     let mut reader = Reader::new();
     let mut rest = text;
     let mut line: u32 = 1;
     while let Some((bytes, more)) = cut(rest, b'\n') {
-        match reader.line(bytes) {
-            Ok(()) => {
-                rest = more;
-                line += 1;
-            }
-            Err(refusal) => return Err(Fault { refusal, line }),
-        }
+        reader
+            .line(bytes)
+            .map_err(|refusal| Fault { refusal, line })?;
+        rest = more;
+        line += 1;
     }
-    if rest.len() > 0 || !is_end(&reader.draft, reader.place) {
+    if !rest.is_empty() || !is_end(reader.place) {
         return Err(Fault {
             refusal: Refusal::Malformed,
             line,

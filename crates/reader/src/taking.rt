@@ -9,20 +9,20 @@ ghost use Rattle.reader.specs.Reads.{Took, TookBytes, meaning};
 
 use crate::reader::Reader;
 use drafts::Draft;
-use lines::{Line, Side, first_name, parse};
+use lines::{Line, Side, parse};
 use places::{Place, may_follow};
 use refusals::Refusal;
 use tables::Children;
 
-// The children of a rule of a side, by their names, which are parted by spaces.
+// The children of a rule of a side, by their names, which are parted by spaces. Each part is taken with its space: after
+// a last space `split` would give an empty name.
 fn children(draft: &Draft, side: Side, names: &[u8]) -> Children
     ensures { ChildrenAre draft.now side (parted names.now) result }
 {
     let mut children = Children::none();
-    let mut rest = names;
-    while let Some((name, more)) = first_name(rest) {
+    for part in names.split_inclusive(|b| *b == b' ') {
+        let name = part.strip_suffix(b" ").unwrap_or(part);
         children = draft.and_child(side, children, name);
-        rest = more;
     }
     children
 }
@@ -73,9 +73,7 @@ impl Reader {
     pub(crate) fn line(&mut self, bytes: &[u8]) -> Result<(), Refusal>
         ensures { TookBytes (meaning self.old) bytes.now result (meaning self.new) }
     {
-        let Some(line) = parse(bytes) else {
-            return Err(Refusal::Malformed);
-        };
+        let line = parse(bytes).ok_or(Refusal::Malformed)?;
         if !may_follow(&self.draft, self.place, line) {
             return Err(Refusal::Malformed);
         }

@@ -5,26 +5,26 @@
 ghost use Rattle.refusals.specs.Numbers.{number};
 ghost use Rattle.std.specs.Prelude.{◌≡◌};
 
-#[derive(Clone, Copy)]
+#[derive(Clone, Copy, PartialEq, Eq)]
 pub enum Refusal {
-    TextTooLong,
-    Malformed,
-    NoSuchModulus,
-    NoExtension,
-    WeightTooLarge,
-    StateCountOutOfRange,
-    Undeclared,
-    Repeated,
-    WrongChildren,
-    RankTooLarge,
-    NoSuchSide,
-    MalformedTree,
-    BufferTooShort,
-    Sealed,
-    NotSealed,
-    Ended,
-    NotEnded,
-    TableFull,
+    TextTooLong = 101,
+    Malformed = 102,
+    NoSuchModulus = 103,
+    NoExtension = 104,
+    WeightTooLarge = 105,
+    StateCountOutOfRange = 106,
+    Undeclared = 107,
+    Repeated = 108,
+    WrongChildren = 109,
+    RankTooLarge = 110,
+    NoSuchSide = 111,
+    MalformedTree = 112,
+    BufferTooShort = 113,
+    Sealed = 201,
+    NotSealed = 202,
+    Ended = 203,
+    NotEnded = 204,
+    TableFull = 205,
 }
 
 impl Refusal {
@@ -32,25 +32,14 @@ impl Refusal {
     pub fn number(self) -> u32
         ensures { result ≡ number self }
     {
-        match self {
-            Refusal::TextTooLong => 101,
-            Refusal::Malformed => 102,
-            Refusal::NoSuchModulus => 103,
-            Refusal::NoExtension => 104,
-            Refusal::WeightTooLarge => 105,
-            Refusal::StateCountOutOfRange => 106,
-            Refusal::Undeclared => 107,
-            Refusal::Repeated => 108,
-            Refusal::WrongChildren => 109,
-            Refusal::RankTooLarge => 110,
-            Refusal::NoSuchSide => 111,
-            Refusal::MalformedTree => 112,
-            Refusal::BufferTooShort => 113,
-            Refusal::Sealed => 201,
-            Refusal::NotSealed => 202,
-            Refusal::Ended => 203,
-            Refusal::NotEnded => 204,
-            Refusal::TableFull => 205,
-        }
+        self as u32
+    }
+}
+
+impl From<Refusal> for u32 {
+    ghost from_gives = { λ r n. n ≡ number r };
+
+    fn from(refusal: Refusal) -> u32 {
+        refusal.number()
     }
 }

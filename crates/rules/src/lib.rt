@@ -1,5 +1,18 @@
-// The rules of an automaton, by numbers: a table of at most 256.
+// The rules of an automaton, by numbers.
 #![tactic(auto)]
 
-mod rules;
-pub mod tables;
+ghost use Rattle.std.specs.Prelude.{◌<◌, ◌^◌};
+
+use table::Table;
+
+mod blank;
+
+// That the weight is a `u32` is said to proofs, which bound the text of a rule by it.
+#[derive(Clone, Copy)]
+pub struct Rule {
+    pub symbol: u32,
+    pub target: u32,
+    pub weight: u32,
+    pub children: Table<u32, 3>,
+    ghost fits: { weight < 2 ^ 32 },
+}

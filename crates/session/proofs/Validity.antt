@@ -4,9 +4,8 @@ use Rattle.std.specs.List.{AllByRecursion}
 use Rattle.std.proofs.ByRecursion.{All-push, All-set, All-weaker}
 use Rattle.std.proofs.lemmas.List.{length_push, length-set, length-replicate, get_or_append_left}
 use Rattle.field.specs.Algebra.{Algebra, Lawful}
-use Rattle.equivalence.specs.Automata as automata
 use Rattle.equivalence.specs.Trees.{rank, Declared}
-use Rattle.equivalence.specs.Automata.{Rule, Automaton, Sides, Sound, states}
+use Rattle.equivalence.specs.Automata.{Rule, Automaton, states}
 use Rattle.session.specs.Calls.{Call, Given, Outcome, AllPass, After, Does, StateOf, checks, call_symbol, call_rule, call_final, call_weigh}
 use Rattle.session.specs.Sessions.{Session, begun, blank, with_sides, with_symbol, with_rule, with_final}
 use Rattle.session.specs.Runs.{Event, Run}
@@ -151,15 +150,3 @@ as_valid A n m s v =
 pub does_still : (A : Algebra) (s t : Session) (c : Call) (o : Outcome c) → Valid A s → Does A s c o t → Valid A t
 does_still A s t c o v d =
     let n = states s.sides.a in let m = states s.sides.b in as_valid A n m t (does_valid A n m s v t c o d)
-
--- the automata of a valid session are sound
-pub side_sound : (q : ℕ) (ranks : List ℕ) (n : ℕ) (M : Automaton ℕ) → ValidSide q ranks n M → Sound q M
-side_sound q ranks n M v =
-    record {
-      finals = v.finals;
-      rules =
-          All-weaker (ValidRule q ranks n) (automata.SoundRule q (states M))
-          (λ r h. record { weight = h.weight; children = subst (λ (k : ℕ). AllByRecursion (λ p. (1 ≤ p) × (p ≤ k)) r.children) (sym v.count) h.children })
-          M.rules
-          v.rules;
-    }

@@ -48,6 +48,11 @@ FirstFailing (c ∷ cs) e = ((c.passes → ⊥) × (e ≡ c.refusal)) ⊎ (c.pas
 abbrev pub StateOf : Automaton ℕ → ℕ → Type 0
 StateOf M q = (1 ≤ q) × (q ≤ states M)
 
+-- The checks of a symbol that are made on the symbols before it, in their order.
+abbrev pub symbol_checks : List ℕ → ℕ → List Check
+symbol_checks ranks k =
+    record { refusal = RankTooLarge; passes = k ≤ 3 } ∷ record { refusal = TableFull; passes = length ranks < 12 } ∷ []
+
 -- The checks of a rule and of a final weight that are made on a side, in their order.
 abbrev pub rule_checks : Algebra → List ℕ → Automaton ℕ → ℕ → ℕ → ℕ → List ℕ → List Check
 rule_checks A ranks M f t w cs =
@@ -66,10 +71,7 @@ final_checks A M q w =
 -- The checks of a call, in their order.
 abbrev pub checks : Algebra → Session → Call → List Check
 checks A s (call_symbol k) =
-    record { refusal = Sealed; passes = s.phase ≡ Open }
-    ∷ record { refusal = RankTooLarge; passes = k ≤ 3 }
-    ∷ record { refusal = TableFull; passes = length s.sides.ranks < 12 }
-    ∷ []
+    record { refusal = Sealed; passes = s.phase ≡ Open } ∷ symbol_checks s.sides.ranks k
 checks A s (call_rule x f t w cs) =
     record { refusal = Sealed; passes = s.phase ≡ Open }
     ∷ record { refusal = NoSuchSide; passes = x ≤ 1 }

@@ -1,12 +1,13 @@
--- A valid shape is a field. Assumes nothing.
-use Rattle.std.proofs.lemmas.Bool.{and_parts, and_from}
+-- A shape is a field, and each extension in it is one. Assumes nothing.
+use Rattle.std.proofs.lemmas.Bool.{and_from}
 use Rattle.field.specs.Algebra.{Lawful}
 use Rattle.prime.specs.Residues.{residues}
 use Rattle.prime.specs.Moduli.{admitted}
 use Rattle.prime.specs.Inverses.{residue_field}
 use Rattle.prime.specs.Primality.{admitted_prime, admitted_fits}
 use Rattle.polynomials.proofs.Laws.{field}
-use Rattle.extension.proofs.Laws.{extension_lawful, extends_from_test, test_from_extends}
+use Rattle.extension.proofs.Laws.{extension_lawful, test_from_extends}
+use Rattle.quadratic.specs.Known.{extends}
 use Rattle.std.specs.Prelude.{◌≡◌, ℕ, true, refl}
 use Rattle.shapes.specs.Shapes.{algebra, valid, ValidShape}
 use Rattle.shapes.specs.declared.shape.Shape.{Shape}
@@ -15,37 +16,32 @@ use Rattle.shapes.specs.declared.shape.Shape.TheVariants.{Prime, Byte, PrimePair
 prime : (p : ℕ) → admitted p ≡ true → Lawful (residues p)
 prime p h = residue_field p (admitted_prime p h) (admitted_fits p h)
 
-pub shape_lawful : (s : Shape) → ValidShape s → Lawful (algebra s)
-shape_lawful (Prime f) v = prime f.modulus f.listed
-shape_lawful (Byte f) v = field
-shape_lawful (PrimePair f) v = extension_lawful _ (prime f.base.modulus f.base.listed) f.u f.v v.extends
-shape_lawful (BytePair f) v = extension_lawful _ field f.u f.v v.extends
-shape_lawful (PrimeTower f) v =
+pub shape_lawful : (s : Shape) → Lawful (algebra s)
+shape_lawful (Prime f) = prime f.modulus f.listed
+shape_lawful (Byte f) = field
+shape_lawful (PrimePair f) = extension_lawful _ (prime f.base.modulus f.base.listed) f.u f.v (extends f)
+shape_lawful (BytePair f) = extension_lawful _ field f.u f.v (extends f)
+shape_lawful (PrimeTower f) =
     extension_lawful _
-    (extension_lawful _ (prime f.base.base.modulus f.base.base.listed) f.base.u f.base.v v.base.extends)
-    f.u f.v v.extends
-shape_lawful (ByteTower f) v =
-    extension_lawful _ (extension_lawful _ field f.base.u f.base.v v.base.extends) f.u f.v v.extends
+    (extension_lawful _ (prime f.base.base.modulus f.base.base.listed) f.base.u f.base.v (extends f.base))
+    f.u f.v (extends f)
+shape_lawful (ByteTower f) =
+    extension_lawful _ (extension_lawful _ field f.base.u f.base.v (extends f.base))
+    f.u f.v (extends f)
 
--- the test and what it tests
-pub valid_from_test : (s : Shape) → valid s ≡ true → ValidShape s
-valid_from_test (Prime f) t = tt
-valid_from_test (Byte f) t = tt
-valid_from_test (PrimePair f) t = record { base = tt; extends = extends_from_test _ _ _ t }
-valid_from_test (BytePair f) t = record { base = tt; extends = extends_from_test _ _ _ t }
-valid_from_test (PrimeTower f) t =
-    let h = and_parts _ _ t in
-    record { base = record { base = tt; extends = extends_from_test _ _ _ h.0 }; extends = extends_from_test _ _ _ h.1 }
-valid_from_test (ByteTower f) t =
-    let h = and_parts _ _ t in
-    record { base = record { base = tt; extends = extends_from_test _ _ _ h.0 }; extends = extends_from_test _ _ _ h.1 }
+-- what a shape is by its type, and the test of it
+pub valid_from_test : (s : Shape) → ValidShape s
+valid_from_test (Prime f) = tt
+valid_from_test (Byte f) = tt
+valid_from_test (PrimePair f) = record { base = tt; extends = extends f }
+valid_from_test (BytePair f) = record { base = tt; extends = extends f }
+valid_from_test (PrimeTower f) = record { base = record { base = tt; extends = extends f.base }; extends = extends f }
+valid_from_test (ByteTower f) = record { base = record { base = tt; extends = extends f.base }; extends = extends f }
 
-pub test_from_valid : (s : Shape) → ValidShape s → valid s ≡ true
-test_from_valid (Prime f) v = refl
-test_from_valid (Byte f) v = refl
-test_from_valid (PrimePair f) v = test_from_extends _ _ _ v.extends
-test_from_valid (BytePair f) v = test_from_extends _ _ _ v.extends
-test_from_valid (PrimeTower f) v =
-    and_from _ _ (test_from_extends _ _ _ v.base.extends) (test_from_extends _ _ _ v.extends)
-test_from_valid (ByteTower f) v =
-    and_from _ _ (test_from_extends _ _ _ v.base.extends) (test_from_extends _ _ _ v.extends)
+pub test_from_valid : (s : Shape) → valid s ≡ true
+test_from_valid (Prime f) = refl
+test_from_valid (Byte f) = refl
+test_from_valid (PrimePair f) = test_from_extends _ _ _ (extends f)
+test_from_valid (BytePair f) = test_from_extends _ _ _ (extends f)
+test_from_valid (PrimeTower f) = and_from _ _ (test_from_extends _ _ _ (extends f.base)) (test_from_extends _ _ _ (extends f))
+test_from_valid (ByteTower f) = and_from _ _ (test_from_extends _ _ _ (extends f.base)) (test_from_extends _ _ _ (extends f))

@@ -1,63 +1,46 @@
-// A given shape as a field: what is known of it in its type is all that a field has to be.
+// A shape as a field.
 ghost use Rattle.shapes.specs.Shapes.{algebra};
-ghost use Rattle.shapes.specs.Laws.{shape_lawful, valid_from_test};
+ghost use Rattle.shapes.specs.Laws.{shape_lawful};
 
-use crate::given::Given;
 use crate::shape::Shape;
 use field::Field;
 
-impl Field for Given {
-    ghost valid = { λ g. Unit {0} };
+// What is done with the field that a shape is, whichever of the six it is.
+macro_rules! of_each {
+    ($shape:expr, $f:ident => $done:expr) => {
+        match $shape {
+            Shape::Prime($f) => $done,
+            Shape::Byte($f) => $done,
+            Shape::PrimePair($f) => $done,
+            Shape::BytePair($f) => $done,
+            Shape::PrimeTower($f) => $done,
+            Shape::ByteTower($f) => $done,
+        }
+    };
+}
 
-    ghost model = { λ g. algebra g.shape };
+impl Field for Shape {
+    ghost model = { algebra };
 
-    ghost laws = { λ g h. shape_lawful g.shape (valid_from_test g.shape g.ok) };
+    ghost laws = { shape_lawful };
 
     fn size(&self) -> u64 {
-        Given::size(self)
+        of_each!(self, f => f.size())
     }
 
     fn add(&self, a: u32, b: u32) -> u32 {
-        match self.shape() {
-            Shape::Prime(f) => f.add(a, b),
-            Shape::Byte(f) => f.add(a, b),
-            Shape::PrimePair(f) => f.add(a, b),
-            Shape::BytePair(f) => f.add(a, b),
-            Shape::PrimeTower(f) => f.add(a, b),
-            Shape::ByteTower(f) => f.add(a, b),
-        }
+        of_each!(self, f => f.add(a, b))
     }
 
     fn mul(&self, a: u32, b: u32) -> u32 {
-        match self.shape() {
-            Shape::Prime(f) => f.mul(a, b),
-            Shape::Byte(f) => f.mul(a, b),
-            Shape::PrimePair(f) => f.mul(a, b),
-            Shape::BytePair(f) => f.mul(a, b),
-            Shape::PrimeTower(f) => f.mul(a, b),
-            Shape::ByteTower(f) => f.mul(a, b),
-        }
+        of_each!(self, f => f.mul(a, b))
     }
 
     fn neg(&self, a: u32) -> u32 {
-        match self.shape() {
-            Shape::Prime(f) => f.neg(a),
-            Shape::Byte(f) => f.neg(a),
-            Shape::PrimePair(f) => f.neg(a),
-            Shape::BytePair(f) => f.neg(a),
-            Shape::PrimeTower(f) => f.neg(a),
-            Shape::ByteTower(f) => f.neg(a),
-        }
+        of_each!(self, f => f.neg(a))
     }
 
     fn inv(&self, a: u32) -> Option<u32> {
-        match self.shape() {
-            Shape::Prime(f) => f.inv(a),
-            Shape::Byte(f) => f.inv(a),
-            Shape::PrimePair(f) => f.inv(a),
-            Shape::BytePair(f) => f.inv(a),
-            Shape::PrimeTower(f) => f.inv(a),
-            Shape::ByteTower(f) => f.inv(a),
-        }
+        of_each!(self, f => f.inv(a))
     }
 }

@@ -2,5 +2,6 @@
 #![tactic(auto)]
 
 mod arithmetic;
-pub mod given;
+mod making;
+mod reading;
 pub mod shape;

@@ -9,6 +9,7 @@ pub enum Kind {
     Bytes,
 }
 
+// Each shape is a field: that a modulus is on the list and that an extension is one are facts in the parts' types.
 #[derive(Clone, Copy)]
 pub enum Shape {
     Prime(Prime),

@@ -1,13 +1,21 @@
--- What a side is given, and what a tree weighs in it.
-use Rattle.std.specs.Prelude.{◌≡◌, ℕ, ◌≤◌, List, length, Result, MatchResult}
+-- What a setting and a side are given, and what a tree weighs in a side.
+use Rattle.std.specs.Prelude.{◌≡◌, ℕ, suc, ◌≤◌, List, [], ◌∷◌, ◌++◌, length, Result, MatchResult}
 use Rattle.automaton.specs.Tables.{automaton_of}
-use Rattle.automaton.specs.declared.tables.Automaton.{Automaton}
+use Rattle.automaton.specs.declared.Automaton.{Automaton}
 use Rattle.equivalence.specs.Automata as automata
 use Rattle.equivalence.specs.Entries.{Entry, WellFormed, tree_of}
 use Rattle.field.specs.Algebra.{Algebra, ops}
 use Rattle.refusals.specs.declared.Refusal.{Refusal}
 use Rattle.refusals.specs.declared.Refusal.TheVariants.{MalformedTree}
-use Rattle.session.specs.Calls.{Check, AllPass, FirstFailing}
+use Rattle.session.specs.Calls.{Check, AllPass, FirstFailing, symbol_checks}
+
+-- One symbol more is declared and has the next number, or the first check that fails gives the refusal and the ranks are
+-- as they were.
+abbrev pub Declares : List ℕ → ℕ → Result ℕ Refusal → List ℕ → Type 0
+Declares ranks k r result =
+    MatchResult r
+    (λ n. AllPass (symbol_checks ranks k) × (n ≡ suc (length ranks)) × (result ≡ ranks ++ (k ∷ [])))
+    (λ e. FirstFailing (symbol_checks ranks k) e × (result ≡ ranks))
 
 -- A side is given something: it passes the checks and is as said, or the first check that fails gives the refusal and the
 -- side is as it was.

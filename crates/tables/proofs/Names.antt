@@ -1,81 +1,47 @@
--- The number of a name in a list of names, and a look-up among the first entries of an array.
-use Rattle.std.proofs.Common.{◌≡◌, ℕ, zero, suc, ◌+◌, ◌<◌, ◌≤◌, Bool, true, false, cond, List, [], ◌∷◌, ◌++◌, map, length, get_or, take, drop, Decides, sym, refl, ap, ◌∙◌, inl, inr, add-one, arith, take-append-drop}
-use lib.ListN.{length-map}
+-- The number of a name in a list of names, by the first place where it stands.
+use Rattle.std.proofs.Common.{◌≡◌, ℕ, zero, suc, ◌+◌, ◌<◌, ◌≤◌, Bool, true, false, cond, List, [], ◌∷◌, ◌++◌, map, length, take, Option, Some, None, MatchOption, Decides, sym, refl, ap, inl, inr, add-one, arith}
+use Rattle.std.specs.List.{AllWithin, HoldsAt}
 use Rattle.std.proofs.lemmas.Slice.Eq.{compares_Decides}
-use Rattle.std.proofs.lemmas.List.{length-take-le, take_more, take_all, drop_more, get_or-map}
-use Rattle.std.proofs.lemmas.Bool.{cases_Bool, both_ways}
+use Rattle.std.proofs.lemmas.Bool.{cases_Bool}
 use Rattle.format.specs.Reading.{same_bytes, or_none, number_of}
-use Rattle.rules.proofs.Fronts.{front_length, front_at}
-
--- a component of each of the first entries
-module _ {X Y Z : Type 0} (f : X → Y) (g : Y → Z) (xs : List X) (n : ℕ) (few : n ≤ length xs) where
-  part_length : length (map g (map f (take n xs))) ≡ n
-  part_length = length-map (map f (take n xs)) g ∙ front_length f xs n few
-
-  pub part_at : (i : ℕ) (d : X) (e : Z) → i < n → get_or (map g (map f (take n xs))) i e ≡ g (f (get_or xs i d))
-  part_at i d e less =
-      let l = front_length f xs n few in
-      get_or-map g (map f (take n xs)) i (f d) e (omega arith) ∙ ap g (front_at f xs n i d (f d) few less)
+use Rattle.tables.specs.Tables.{numbered}
 
 same_bytes_is : (xs ys : List ℕ) → Decides (same_bytes xs ys) (xs ≡ ys)
 same_bytes_is =
     compares_Decides same_bytes (record { empty = refl; shorter = λ _ _. refl; longer = λ _ _. refl; heads = λ _ _ _ _. refl })
-
-absent_parts : (b : Bool) (n : ℕ) → cond b 1 (or_none n) ≡ 0 → (b ≡ false) × (n ≡ 0)
-absent_parts true n e = absurd (omega arith)
-absent_parts false zero e = (refl, refl)
-absent_parts false (suc n) e = absurd (omega arith)
 
 counted : (b : Bool) (n m : ℕ) → n ≤ m → cond b 1 (or_none n) ≤ suc m
 counted true n m h = omega arith
 counted false zero m h = omega arith
 counted false (suc n) m h = omega arith
 
-module _ (x : List ℕ) where
-  absent_push : (ys : List (List ℕ)) (y : List ℕ) → number_of ys x ≡ 0 → (y ≡ x → ⊥) → number_of (ys ++ (y ∷ [])) x ≡ 0
-  absent_push [] y h other =
-      elim (cases_Bool (same_bytes y x)) [ inl t ↦ absurd (other ((same_bytes_is y x).0 t)) | inr t ↦ rw t ]
-  absent_push (z ∷ ys) y h other =
-      let p = absent_parts (same_bytes z x) _ h in
-      let i = absent_push ys y p.1 other in
-      rw (p.0, i)
-
-  found_after : (ys zs : List (List ℕ)) → number_of ys x ≡ 0 → number_of (ys ++ (x ∷ zs)) x ≡ suc (length ys)
-  found_after [] zs h = rw ((same_bytes_is x x).1 refl)
-  found_after (y ∷ ys) zs h =
-      let p = absent_parts (same_bytes y x) _ h in
-      rw (p.0, found_after ys zs p.1)
-
-  found_at : (ys : List (List ℕ)) (i : ℕ) → i < length ys → number_of (take i ys) x ≡ 0 → get_or ys i [] ≡ x → number_of ys x ≡ i + 1
-  found_at ys i less none e =
-      let f = found_after (take i ys) (drop (i + 1) ys) none in
-      let s = take-append-drop i ys in
-      let r = drop_more ys i [] less in
-      let l = length-take-le i ys (omega arith) in
-      let a = add-one i in
-      cc
-
 pub number_of_le : (ys : List (List ℕ)) (x : List ℕ) → number_of ys x ≤ length ys
 number_of_le [] x = omega arith
 number_of_le (y ∷ ys) x = counted (same_bytes y x) (number_of ys x) (length ys) (number_of_le ys x)
 
--- A look-up by name among the first n of xs, from the front on, at place i: x is none of those before it.
-module _ {X Y : Type 0} (f : X → Y) (name : Y → List ℕ) (xs : List X) (n : ℕ) (few : n ≤ length xs) (x : List ℕ) (i : ℕ) where
-  abbrev names : List (List ℕ)
-  names = map name (map f (take n xs))
+-- by the names of things
+module _ {X : Type 0} (called : X → List ℕ) (x : List ℕ) where
+  other : (y : X) → (called y ≡ x → ⊥) → same_bytes (called y) x ≡ false
+  other y h =
+      elim (cases_Bool (same_bytes (called y) x)) [ inl t ↦ absurd (h ((same_bytes_is (called y) x).0 t)) | inr t ↦ t ]
 
-  pub look_up_more : i < n → (d : X) → number_of (take i names) x ≡ 0 → (name (f (get_or xs i d)) ≡ x → false ≡ true) → number_of (take (i + 1) names) x ≡ 0
-  look_up_more less d none other =
-      let l = part_length f name xs n few in
-      let e = part_at f name xs n few i d [] less in
-      rw (take_more names i [] (omega arith)) (absent_push x (take i names) _ none (λ h. both_ways false refl (other (sym e ∙ h))))
+  pub none_called : (ys : List X) → AllWithin (λ y. called y ≡ x → ⊥) ys 0 (length ys) → number_of (map called ys) x ≡ 0
+  none_called [] h = refl
+  none_called (y ∷ ys) h =
+      rw (other y (h 0 y (omega arith) (omega arith)), none_called ys (λ k d low high. h (suc k) d (omega arith) (omega arith)))
 
-  pub look_up_found : i < n → (d : X) → number_of (take i names) x ≡ 0 → name (f (get_or xs i d)) ≡ x → i + 1 ≡ number_of names x
-  look_up_found less d none here =
-      let l = part_length f name xs n few in
-      sym (found_at x names i (omega arith) none (part_at f name xs n few i d [] less ∙ here))
+  pub first_called : (ys : List X) (i : ℕ) → i < length ys → HoldsAt (λ y. called y ≡ x) ys i → AllWithin (λ y. called y ≡ x → ⊥) ys 0 i → number_of (map called ys) x ≡ i + 1
+  first_called [] i less here before = absurd (omega arith)
+  first_called (y ∷ ys) zero less here before = rw ((same_bytes_is (called y) x).1 (here y))
+  first_called (y ∷ ys) (suc i) less here before =
+      rw (other y (before 0 y (omega arith) (omega arith)), first_called ys i (omega arith) here (λ k d low high. before (suc k) d (omega arith) (omega arith)), add-one i) (sym (add-one (suc i)))
 
-  pub look_up_none : n ≤ i → number_of (take i names) x ≡ 0 → 0 ≡ number_of names x
-  look_up_none past none =
-      let l = part_length f name xs n few in
-      sym (rw (take_all i names (omega arith)) at none)
+pub numbered_is : (r : Option ℕ) (n : ℕ) → MatchOption r (n ≡ 0) (λ k. (1 ≤ n) × (k ≡ n)) → r ≡ numbered n
+numbered_is None n h = rw h
+numbered_is (Some k) zero h = absurd (omega arith)
+numbered_is (Some k) (suc n) h = ap Some h.1
+
+pub take_again : {X : Type 0} (n : ℕ) (xs ys : List X) → take n (take n xs ++ ys) ≡ take n (xs ++ ys)
+take_again zero xs ys = refl
+take_again (suc n) [] ys = refl
+take_again (suc n) (x ∷ xs) ys = ap (λ zs. x ∷ zs) (take_again n xs ys)

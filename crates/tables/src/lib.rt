@@ -1,13 +1,16 @@
-// The tables of what a text declares beside its rules, each an array with a count.
+// What a text declares beside its rules, and the children of a rule while it is read.
 #![tactic(auto)]
 
-ghost use Rattle.std.specs.Prelude.{◌≡◌, ◌≤◌, length};
+ghost use Rattle.std.specs.Prelude.{◌^◌, ◌<◌, ◌≤◌};
 
 use words::Name;
 
-mod counting;
-mod state_table;
-mod symbol_table;
+mod blank;
+mod children;
+mod named;
+
+pub use children::Children;
+pub use named::{Named, number_of};
 
 #[derive(Clone, Copy)]
 pub struct Symbol {
@@ -20,30 +23,5 @@ pub struct Symbol {
 pub struct State {
     pub name: Name,
     pub weight: u32,
-}
-
-#[derive(Clone, Copy)]
-pub struct Symbols {
-    pub(crate) entries: [Symbol; 12],
-    pub(crate) count: usize,
-    ghost width: { length entries ≡ 12 },
-    ghost few: { count ≤ 12 },
-}
-
-// The states of one side.
-#[derive(Clone, Copy)]
-pub struct States {
-    pub(crate) entries: [State; 12],
-    pub(crate) count: usize,
-    ghost width: { length entries ≡ 12 },
-    ghost few: { count ≤ 12 },
-}
-
-// The numbers of a rule's children, of which only the first three are kept; more are counted as four.
-#[derive(Clone, Copy)]
-pub struct Children {
-    pub numbers: [u32; 3],
-    pub count: usize,
-    ghost width: { length numbers ≡ 3 },
-    ghost few: { count ≤ 4 },
+    ghost fits: { weight < 2 ^ 32 },
 }

@@ -14,23 +14,30 @@ use refusals::Refusal;
 const EXAMPLE: &[u8] =
     b"kind p steps\nprime 7 0\nu v\nsymbol rank\na 0\nf 2\nside state final\nA q 1\nB r 1\nside symbol target weight children\nA a q 1\nA f q 1 q q\nB a r 1\nB f r 3 r r\n";
 
+impl TryFrom<&[u8]> for Record {
+    type Error = Fault;
+
+    ghost try_from_gives = { λ text r. MatchResult r (λ s. StandsFor text.now (declared s)) (Refused text.now) };
+
+    fn try_from(text: &[u8]) -> Result<Record, Fault> {
+        let draft = reader::read(text)?;
+        Ok(Record { draft })
+    }
+}
+
 impl Record {
     // The record that a text declares, or the text's first fault.
     pub fn from_text(text: &[u8]) -> Result<Record, Fault>
         ensures { MatchResult result (λ s. StandsFor text.now (declared s)) (Refused text.now) }
     {
-        let draft = reader::read(text)?;
-        Ok(Record { draft })
+        Record::try_from(text)
     }
 
     // That of the example text.
     pub fn new() -> Record
         ensures { text_of (declared result) ≡ example }
     {
-        match Record::from_text(EXAMPLE) {
-            Ok(record) => record,
-            Err(_) => unreachable(),
-        }
+        Record::from_text(EXAMPLE).unwrap()
     }
 
     // Reads another record in its place. A text that is refused leaves it as it was.
@@ -46,10 +53,7 @@ impl Record {
     pub fn write(&self, out: &mut [u8]) -> Result<usize, Refusal>
         ensures { MatchResult result (Holds (text_of (declared self.now)) out.old out.new) (λ e. (e ≡ BufferTooShort) × TooShort (text_of (declared self.now)) out.old out.new (length (text_of (declared self.now)))) }
     {
-        match writer::write(&self.draft, out) {
-            Ok(n) => Ok(n),
-            Err(_) => Err(Refusal::BufferTooShort),
-        }
+        writer::write(&self.draft, out).map_err(|_| Refusal::BufferTooShort)
     }
 
     // The record written into the buffer and read from there again.
@@ -57,9 +61,6 @@ impl Record {
         ensures { MatchResult result (λ s. declared s ≡ declared self.now) (λ e. (e ≡ BufferTooShort) × TooShort (text_of (declared self.now)) buffer.old buffer.new (length (text_of (declared self.now)))) }
     {
         let n = self.write(buffer)?;
-        match Record::from_text(&buffer[0..n]) {
-            Ok(record) => Ok(record),
-            Err(_) => unreachable(),
-        }
+        Ok(Record::from_text(&buffer[..n]).unwrap())
     }
 }

@@ -10,24 +10,16 @@ ghost use Rattle.text.specs.Exchange.{declared};
 
 use crate::record::Record;
 use lines::Side;
-use rules::tables::Rule;
-use shapes::given::Given;
+use rules::Rule;
 use shapes::shape::Shape;
 use tables::{State, Symbol};
 
 impl Record {
-    // The field, which keeps the laws.
+    // The field.
     pub fn field(&self) -> Shape
         ensures is { algebra result ≡ field_of (declared self.now) }
         ensures valid { ValidShape result }
         ensures lawful { Lawful (algebra result) }
-    {
-        self.draft.field().shape()
-    }
-
-    // The same field, known to be one by its type.
-    pub fn given(&self) -> Given
-        ensures { algebra result.shape ≡ field_of (declared self.now) }
     {
         *self.draft.field()
     }
@@ -36,20 +28,20 @@ impl Record {
     pub fn symbols(&self) -> &[Symbol]
         ensures { map symbol_of result.now ≡ (declared self.now).symbols }
     {
-        self.draft.symbols().items()
+        self.draft.symbols()
     }
 
     // The states of a side, in order.
     pub fn states(&self, side: Side) -> &[State]
         ensures { map state_of result.now ≡ (part (declared self.now) (side_of side)).states }
     {
-        self.draft.part(side).states.items()
+        self.draft.part(side).states()
     }
 
     // The rules of a side, in order.
     pub fn rules(&self, side: Side) -> &[Rule]
         ensures { map rule_model result.now ≡ (part (declared self.now) (side_of side)).rules }
     {
-        self.draft.part(side).rules.items()
+        self.draft.part(side).rules()
     }
 }

@@ -2,22 +2,19 @@
 // how many cases there were and how many were wrong.
 #![tactic(auto)]
 
-mod tally;
+mod run;
 mod text_rows;
 mod texts;
 mod weigh_rows;
 mod weighings;
 
-use tally::Tally;
-use texts::texts;
-use weighings::weighings;
+use run::Run;
 
 fn main(rt: HostRuntime) -> anyhow::Result<()> {
-    let mut tally = Tally::new();
-    texts(&rt, &mut tally)?;
-    weighings(&rt, &mut tally)?;
-    let run = tally.run;
-    let wrong = tally.wrong;
-    println!(rt; "{run} cases, {wrong} wrong")?;
+    let mut run = Run::new(&rt);
+    run.texts()?;
+    run.weighings()?;
+    let tally = run.tally;
+    println!(rt; "{tally}")?;
     Ok(())
 }

@@ -2,6 +2,7 @@
 // format.
 
 // What it is, how it starts, how it goes on, and the fault.
+#[derive(Clone, Copy)]
 pub struct Plain(
     pub &'static str,
     pub &'static str,
@@ -10,6 +11,7 @@ pub struct Plain(
 );
 
 // What it is, how it starts, a part that comes so many times, how it ends, and the fault.
+#[derive(Clone, Copy)]
 pub struct Repeated(
     pub &'static str,
     pub &'static str,

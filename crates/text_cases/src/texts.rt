@@ -1,15 +1,22 @@
 // Texts, read, and written again where they are accepted.
-use crate::tally::Tally;
-use crate::text_rows::{PLAIN, REPEATED};
+use crate::run::Run;
+use crate::text_rows::{PLAIN, Plain, REPEATED, Repeated};
 use report::report;
 use std::alloc::{AllocError, Global};
 use std::fmt;
 use text::Record;
-use words::same;
 
 // A fault by its number and line, or none.
-#[derive(Clone, Copy)]
+#[derive(Clone, Copy, PartialEq, Eq)]
 struct Outcome(Option<(u32, u32)>);
+
+impl Outcome {
+    // What reading gives.
+    fn of(text: &[u8]) -> Outcome {
+        let fault = Record::from_text(text).err();
+        Outcome(fault.map(|fault| (fault.refusal.number(), fault.line)))
+    }
+}
 
 impl fmt::Display for Outcome {
     fn fmt<W: fmt::Write>(&self, f: &mut fmt::Formatter<W>) -> fmt::Result {
@@ -17,14 +24,6 @@ impl fmt::Display for Outcome {
             Some((number, line)) => write!(f, "{number} on line {line}"),
             None => write!(f, "accepted"),
         }
-    }
-}
-
-// What reading gives.
-fn read(text: &[u8]) -> Outcome {
-    match Record::from_text(text) {
-        Ok(_) => Outcome(None),
-        Err(fault) => Outcome(Some((fault.refusal.number(), fault.line))),
     }
 }
 
@@ -39,30 +38,9 @@ fn page(heap: Global, text: &[u8], fault: Option<(u32, u32)>) -> Result<Vec<u8>,
     }
 }
 
-fn run(
-    rt: &HostRuntime,
-    what: &str,
-    text: &[u8],
-    fault: Option<(u32, u32)>,
-    tally: &mut Tally,
-) -> anyhow::Result<()> {
-    let came = read(text);
-    let wanted = Outcome(fault);
-    let printed = report(rt.alloc(), text)?;
-    let expected = page(rt.alloc(), text, fault)?;
-    println!(rt; "text, {what}: expected {wanted}, got {came}")?;
-    tally.note(came.0 == fault && same(&printed, &expected));
-    Ok(())
-}
-
 // The start, the part so many times, and the end.
-fn made(
-    heap: Global,
-    start: &str,
-    part: &str,
-    times: u32,
-    end: &str,
-) -> Result<Vec<u8>, AllocError> {
+fn made(heap: Global, row: &Repeated) -> Result<Vec<u8>, AllocError> {
+    let Repeated(_, start, part, times, end, _) = *row;
     let mut text = start.as_bytes().to_vec(heap)?;
     for _ in 0..times {
         text.extend_from_slice(part.as_bytes())?;
@@ -71,14 +49,28 @@ fn made(
     Ok(text)
 }
 
-pub fn texts(rt: &HostRuntime, tally: &mut Tally) -> anyhow::Result<()> {
-    for row in &PLAIN {
-        let text = made(rt.alloc(), row.1, row.2, 1, "")?;
-        run(rt, row.0, &text, row.3, tally)?;
+impl Run<'_> {
+    fn text(&mut self, row: &Repeated) -> anyhow::Result<()> {
+        let heap = self.rt.alloc();
+        let Repeated(what, _, _, _, _, fault) = *row;
+        let text = made(heap, row)?;
+        let came = Outcome::of(&text);
+        let wanted = Outcome(fault);
+        let printed = report(heap, &text)?;
+        let expected = page(heap, &text, fault)?;
+        println!(self.rt; "text, {what}: expected {wanted}, got {came}")?;
+        self.tally.note(came == wanted && printed.as_slice() == expected.as_slice());
+        Ok(())
     }
-    for row in &REPEATED {
-        let text = made(rt.alloc(), row.1, row.2, row.3, row.4)?;
-        run(rt, row.0, &text, row.5, tally)?;
+
+    pub fn texts(&mut self) -> anyhow::Result<()> {
+        for row in &PLAIN {
+            let Plain(what, start, part, fault) = *row;
+            self.text(&Repeated(what, start, part, 1, "", fault))?;
+        }
+        for row in &REPEATED {
+            self.text(row)?;
+        }
+        Ok(())
     }
-    Ok(())
 }

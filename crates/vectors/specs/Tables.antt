@@ -1,14 +1,11 @@
 -- What the table of vectors holds.
-use Rattle.std.specs.Prelude.{ℕ, zero, suc, ◌*◌, List, [], ◌∷◌, ◌++◌, take, drop}
-use Rattle.vectors.specs.declared.tables.Vectors.{Vectors}
+use Rattle.std.specs.Prelude.{ℕ, List, map, take}
+use Rattle.table.specs.Items.{items_of}
+use Rattle.vectors.specs.declared.Vectors.{Vectors}
 
--- the first n vectors, of so many elements each, twelve places apart
-abbrev pub rows : ℕ → List ℕ → ℕ → List (List ℕ)
-rows width codes zero = []
-rows width codes (suc n) = rows width codes n ++ (take width (drop (12 * n) codes) ∷ [])
-
+-- the rows, each cut to the width
 abbrev pub vectors_of : Vectors → List (List ℕ)
-vectors_of v = rows v.width v.codes v.count
+vectors_of v = map (take v.width) (items_of v.rows)
 
 abbrev pub width_of : Vectors → ℕ
 width_of v = v.width

@@ -1,8 +1,9 @@
 -- A text is cut at a byte in one way, and so is a line of fields parted by spaces.
-use Rattle.std.proofs.Common.{◌≡◌, ℕ, ◌+◌, ◌-◌, ◌<◌, List, [], ◌∷◌, ◌++◌, length, get_or, take, drop, sym, refl, ap, ◌∙◌, arith, take-append-drop}
-use Rattle.std.specs.List.{AllByRecursion}
-use Rattle.std.proofs.ByRecursion.{All-append}
-use Rattle.std.proofs.lemmas.List.{drop_more, take_rest}
+use Rattle.std.proofs.Common.{◌≡◌, ℕ, ◌+◌, ◌-◌, ◌<◌, ◌≤◌, List, [], ◌∷◌, ◌++◌, length, get_or, take, drop, sym, refl, ap, arith, take-append-drop}
+use Rattle.std.specs.List.{AllByRecursion, AllWithin}
+use Rattle.std.proofs.ByRecursion.{All-append, All-from_get_or}
+use Rattle.std.proofs.lemmas.List.{drop_more, take_rest, length-take-le, get_or-take}
+use Rattle.std.specs.Prelude.{◌≢◌}
 use Rattle.words.specs.Words.{Cut, Lacks, spaced}
 
 module _ (b : ℕ) where
@@ -14,6 +15,11 @@ module _ (b : ℕ) where
       let g = take-append-drop i xs in
       (cc, h)
 
+  -- the bytes before a place, none of which is b
+  pub lacks_before : (xs : List ℕ) (i : ℕ) → i ≤ length xs → AllWithin (λ x. x ≢ b) xs 0 i → Lacks b (take i xs)
+  lacks_before xs i less h =
+      All-from_get_or _ (take i xs) 0 (λ k below. let small : k < i = omega (arith, length-take-le i xs less) in rw (get_or-take) (h k 0 (omega arith) small))
+
   pub cut_unique : (xs xs' ys ys' : List ℕ) → Lacks b xs → Lacks b xs' → xs ++ (b ∷ ys) ≡ xs' ++ (b ∷ ys') → (xs ≡ xs') × (ys ≡ ys')
   cut_unique [] [] ys ys' h h' e = (refl, cc)
   cut_unique [] (x ∷ xs') ys ys' h h' e = absurd (h'.0 (cc))
@@ -22,9 +28,6 @@ module _ (b : ℕ) where
       let r = cut_unique xs xs' ys ys' h.1 h'.1 (cc) in
       let same = r.0 in
       (cc, r.1)
-
-  pub cut_is : (text front rest xs ys : List ℕ) → Cut b text front rest → Lacks b xs → text ≡ xs ++ (b ∷ ys) → (front ≡ xs) × (rest ≡ ys)
-  cut_is text front rest xs ys c h e = cut_unique front xs rest ys c.1 h (sym c.0 ∙ e)
 
   -- a list that lacks b is not cut at b
   pub lacks_cut : (xs front rest : List ℕ) → Lacks b xs → xs ≡ front ++ (b ∷ rest) → ⊥

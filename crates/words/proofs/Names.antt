@@ -1,13 +1,12 @@
 -- Names: byte by byte, and as records.
-use Rattle.std.proofs.Common.{◌≡◌, ℕ, ◌-◌, ◌<◌, ◌≤◌, true, false, List, [], ◌∷◌, ◌++◌, length, get_or, take, drop, replicate, Decides, sym, refl, ap, ◌∙◌, subst, inl, inr, arith, length-append, length-drop, take-append-drop}
+use Rattle.std.proofs.Common.{◌≡◌, ℕ, ◌-◌, ◌<◌, ◌≤◌, true, false, List, [], ◌∷◌, ◌++◌, length, get_or, take, drop, replicate, Decides, sym, refl, ap, ◌∙◌, subst, arith, length-append, length-drop, take-append-drop}
 use denote.Struct.Props.{props}
 use mathlib.Core.HLevel.{is_prop→PathP}
-use Rattle.std.specs.List.{list_all, AllByRecursion}
+use Rattle.std.specs.List.{list_all, AllByRecursion, AllWithin}
 use Rattle.std.proofs.ByRecursion.{All-get_or, All-from_get_or, Decides-by_and}
-use Rattle.std.proofs.lemmas.Bool.{and_parts, and_from, or_left, leb-true, le-leb, both_ways, cases_Bool}
+use Rattle.std.proofs.lemmas.Bool.{and_parts, or_left, leb-true, both_ways}
 use Rattle.std.proofs.lemmas.List.{length-take-le, take_at, drop_at, drop-replicate}
-use Rattle.std.proofs.lemmas.Bool.Decides.{same_from_decides}
-use Rattle.words.proofs.Lines.{Field}
+use Rattle.std.specs.Prelude.{nat_le}
 use Rattle.words.specs.declared.name.Name.{Name}
 use Rattle.words.specs.Spelled.{spelled}
 use Rattle.words.specs.Words.{Lacks, small, inner, is_name}
@@ -35,26 +34,16 @@ named (b ∷ bs) h =
       rest = λ i less. All-get_or (λ x. inner x ≡ true) (b ∷ bs) i 0 less all;
     }
 
-pub name_from : (bs : List ℕ) → Named bs → is_name bs ≡ true
-name_from [] n = absurd (omega (arith, n.some))
-name_from (b ∷ bs) n =
-    let all = All-from_get_or (λ x. inner x ≡ true) (b ∷ bs) 0 n.rest in
-    and_from (small b) _ n.first (and_from (list_all inner bs) _ ((all_inner bs).1 all.1) (le-leb (length bs) 7 (omega (arith, n.short))))
-
 -- a byte that may not stand in a name does not
 pub name_lacks : (b : ℕ) → inner b ≡ false → (bs : List ℕ) → is_name bs ≡ true → Lacks b bs
 name_lacks b out bs h =
     All-from_get_or _ bs 0 (λ i less e. both_ways (inner b) out (subst (λ x. inner x ≡ true) e ((named bs h).rest i less)))
 
-pub name_is : (bs : List ℕ) → 1 ≤ length bs → length bs ≤ 8 → ((i : ℕ) → i < length bs → inner (get_or bs i 0) ≡ true) → small (get_or bs 0 0) ≡ is_name bs
-name_is bs some short rest =
-    same_from_decides (small (get_or bs 0 0)) (is_name bs)
-    (λ f. name_from bs (record { some = some; short = short; first = f; rest = rest }), λ h. (named bs h).first)
-    (λ h. h, λ h. h)
-
-pub not_name : (bs : List ℕ) (i : ℕ) → i < length bs → inner (get_or bs i 0) ≡ false → false ≡ is_name bs
-not_name bs i less out =
-    elim (cases_Bool (is_name bs)) [ inl h ↦ absurd (both_ways _ out ((named bs h).rest i less)) | inr h ↦ sym h ]
+-- a small letter, and the bytes after it where each may stand in a name
+pub name_is : (part rest : List ℕ) (b : ℕ) → part ≡ b ∷ rest → small b ≡ true → AllWithin (λ x. inner x ≡ true) rest 0 (length rest) → nat_le (length rest) 7 ≡ is_name part
+name_is part rest b e first h =
+    let all = (all_inner rest).1 (All-from_get_or (λ x. inner x ≡ true) rest 0 (λ k less. h k 0 (omega arith) less)) in
+    rw (e, first, all)
 
 -- bs copied over the front of eight places, where a name keeps it
 module _ (copy bs under : List ℕ) (same : copy ≡ bs) (name : is_name bs ≡ true) where
@@ -84,16 +73,7 @@ module _ (n : Name) where
   pub spelled_length : length (spelled n) ≡ n.len
   spelled_length = length-take-le n.len n.bytes (omega arith)
 
-  pub spelled_named : Named (spelled n)
-  spelled_named = named (spelled n) n.named
-
-  pub spelled_lacks : (b : ℕ) → inner b ≡ false → Lacks b (spelled n)
-  spelled_lacks b out = name_lacks b out (spelled n) n.named
-
-  pub spelled_field : Field (spelled n)
-  spelled_field = (spelled_named.some, spelled_lacks 32 refl)
-
--- names with the same bytes are the same record
+-- names with the same bytes are the same record, so that their derived equality is that of their bytes
 pub same_from_spelled : (m n : Name) → spelled m ≡ spelled n → m ≡ n
 same_from_spelled m n e =
     let l : m.len ≡ n.len = sym (spelled_length m) ∙ ap length e ∙ spelled_length n in

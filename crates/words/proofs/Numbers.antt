@@ -1,5 +1,5 @@
 -- Decimals of numbers below 2 ^ 32: what they look like, and when a list is none.
-use Rattle.std.proofs.Common.{◌≡◌, ℕ, zero, suc, ◌+◌, ◌-◌, ◌*◌, ◌/◌, ◌%◌, ◌^◌, ◌<◌, ◌≤◌, List, [], ◌∷◌, ◌++◌, length, get_or, decimal, sym, ap, ◌∙◌, subst, arith, pow-add, rules}
+use Rattle.std.proofs.Common.{◌≡◌, ℕ, zero, suc, ◌+◌, ◌-◌, ◌*◌, ◌/◌, ◌%◌, ◌^◌, ◌<◌, ◌≤◌, List, [], ◌∷◌, ◌++◌, length, get_or, decimal, sym, ap, ◌∙◌, subst, arith, rules}
 use Rattle.std.specs.Int.{IsInRange}
 use Rattle.std.proofs.lemmas.Fmt.{decimal_digit, decimal_step, decimal_nonempty, length-decimal-le, first_decimal, digits_decimal, digits_value-decimal, decimal-digits_value, decimal_injective}
 use Rattle.std.proofs.ByRecursion.{All-from_get_or}
@@ -38,7 +38,6 @@ same_from_decimal_32 m n hm hn e = decimal_injective m n (omega arith) (omega ar
 -- what a number looks like
 pub record Shape (bs : List ℕ) (n : ℕ) : Type 0 where
   pub some : 1 ≤ length bs
-  pub short : length bs ≤ 10
   pub lead : get_or bs 0 0 ≡ 48 → length bs ≡ 1
   pub digital : Digital bs
   pub value : read 0 bs ≡ n
@@ -50,7 +49,6 @@ decimal_lead (suc n) small e = absurd (omega (arith, first_decimal (suc n) (omeg
 pub number_shape : (bs : List ℕ) (n : ℕ) → Number bs n → Shape bs n
 number_shape bs n (small, e) = subst (λ xs. Shape xs n) (sym e) (record {
   some = decimal_some_32 n small;
-  short = decimal_short n small;
   lead = decimal_lead n small;
   digital = decimal_digital n small;
   value = digits_value-decimal numerals n (omega arith);
@@ -62,16 +60,17 @@ number_of bs n small s =
     let v = s.value in
     (small, cc)
 
-pub read_bound : (i n b : ℕ) → n < 10 ^ i → IsInRange 48 57 b → n * 10 + (b - 48) < 10 ^ (i + 1)
-read_bound i n b less digit = rw pow-add (omega arith)
+-- more digits write no smaller number
+pub read-le : (n : ℕ) (bs : List ℕ) → n ≤ read n bs
+read-le n [] = omega arith
+read-le n (b ∷ bs) = omega (arith, read-le (n * 10 + (b - 48)) bs)
 
--- a decimal is the digits before the last one, at most nine, and the last one
+-- a decimal is the digits before the last one, and the last one
 pub last_only : (n : ℕ) → n < 10 → decimal n ≡ (48 + n % 10) ∷ []
 last_only n less = decimal_digit n less ∙ ap (λ d. (48 + d) ∷ []) (omega arith)
 
-pub last_after : (n : ℕ) → 10 ≤ n → n < 2 ^ 32 → (decimal n ≡ decimal (n / 10) ++ ((48 + n % 10) ∷ [])) × (length (decimal (n / 10)) ≤ 9)
-last_after n more small =
-    (decimal_step n more (omega arith), length-decimal-le 9 (n / 10) (omega arith) (omega arith) (omega arith))
+pub last_after : (n : ℕ) → 10 ≤ n → n < 2 ^ 32 → decimal n ≡ decimal (n / 10) ++ ((48 + n % 10) ∷ [])
+last_after n more small = decimal_step n more (omega arith)
 
 pub decimal_field : (n : ℕ) → n < 2 ^ 32 → Field (decimal n)
 decimal_field n small = (decimal_some_32 n small, decimal_lacks n small 32 (omega arith))

@@ -1,8 +1,12 @@
--- How writes into a buffer compose.
-use Rattle.std.proofs.Common.{◌≡◌, ℕ, suc, ◌+◌, ◌≤◌, List, [], ◌∷◌, ◌++◌, length, take, drop, set, refl, ap, ◌∙◌, add-zero, add-suc, suc-add, zero-add, arith}
+-- How writes follow one another.
+use Rattle.std.proofs.Common.{◌≡◌, ℕ, suc, ◌+◌, ◌-◌, ◌≤◌, ◌<◌, ◌^◌, List, [], ◌∷◌, ◌++◌, map, length, get_or, take, drop, set, sym, refl, ap, ◌∙◌, subst, inl, inr, add-zero, add-suc, suc-add, zero-add, arith, length-append}
+use Rattle.std.specs.Prelude.{min}
+use Rattle.std.specs.List.{flat_map}
 use lib.Seq.{sets, length-sets, sets-eq}
-use Rattle.std.proofs.lemmas.List.{take_at, drop_at}
-use Rattle.words.specs.Puts.{overlaid}
+use Rattle.std.proofs.lemmas.Bool.{cases_lt}
+use Rattle.std.proofs.lemmas.List.{take_at, drop_at, set_past, take_all, take_more, flat_map_more, map_push}
+use Rattle.words.specs.Puts.{Writes, overlaid}
+use Rattle.words.specs.declared.pen.Pen.{Pen}
 
 overlaid_is : (out : List ℕ) (at : ℕ) (bs : List ℕ) → overlaid out at bs ≡ sets out at bs
 overlaid_is out at [] = refl
@@ -16,9 +20,46 @@ pub put_append : (out : List ℕ) (at : ℕ) (xs ys : List ℕ) → overlaid (ov
 put_append out at [] ys = rw add-zero
 put_append out at (x ∷ xs) ys = rw (add-suc, ← suc-add) (put_append (set out at x) (suc at) xs ys)
 
--- the same for what a first and a second call leave
-pub put_then : (out : List ℕ) (at : ℕ) (xs ys : List ℕ) {mid after zs : List ℕ} {place : ℕ} → zs ≡ xs ++ ys → place ≡ at + length xs → mid ≡ overlaid out at xs → after ≡ overlaid mid place ys → after ≡ overlaid out at zs
-put_then out at xs ys e p m a = let q = put_append out at xs ys in cc
+-- past its end a buffer stays as it is
+put_past : (out : List ℕ) (at : ℕ) (bs : List ℕ) → length out ≤ at → overlaid out at bs ≡ out
+put_past out at [] past = refl
+put_past out at (b ∷ bs) past = rw (set_past out at b past) (put_past out (suc at) bs (omega arith))
+
+-- a place that stopped at one past the end is as good as the place after it
+put_mostped : (out : List ℕ) (at most : ℕ) (bs : List ℕ) → length out ≤ most → overlaid out (min at most) bs ≡ overlaid out at bs
+put_mostped out at most bs h =
+    elim (cases_lt at most) [
+      | inl l ↦ let e : min at most ≡ at = omega arith in rw e
+      | inr l ↦ let e : min at most ≡ most = omega arith in rw (e, put_past out most bs h, put_past out at bs (omega arith))
+    ]
+
+-- one write after another
+infixr 5 ◌then◌
+pub ◌then◌ : {a b c : Pen} {xs ys : List ℕ} → Writes a xs b → Writes b ys c → Writes a (xs ++ ys) c
+◌then◌ {a} {b} {c} {xs} {ys} p q =
+    record {
+      same_buffer = q.same_buffer ∙ p.same_buffer;
+      place = let l = length-append xs ys in omega (arith, l, p.place, q.place);
+      put = q.put ∙ ap (λ o. overlaid o b.at ys) p.put ∙ ap (λ k. overlaid (overlaid a.out.now a.at xs) k ys) p.place
+          ∙ put_mostped (overlaid a.out.now a.at xs) (a.at + length xs) (2 ^ 64 - 1) ys (omega (arith, put_length a.out.now a.at xs, a.short)) ∙ put_append a.out.now a.at xs ys;
+    }
+
+-- the same bytes, said otherwise
+pub bytes_are : {a b : Pen} {xs ys : List ℕ} → xs ≡ ys → Writes a xs b → Writes a ys b
+bytes_are {a} {b} e p = subst (λ bs. Writes a bs b) e p
+
+-- the items of a list one by one, each with its bytes
+module _ {X Y : Type 0} (f : Y → List ℕ) (g : X → Y) where
+  pub next_item : (xs : List X) (i : ℕ) (d : X) {x : X} → i < length xs → x ≡ get_or xs i d → {a b c : Pen} → Writes a (flat_map f (map g (take i xs))) b → Writes b (f (g x)) c → Writes a (flat_map f (map g (take (i + 1) xs))) c
+  next_item xs i d {x} l e p q =
+      bytes_are (flat_map_more f [] (map g (take i xs)) (g x) ∙ ap (flat_map f) (sym (map_push g (take i xs) x) ∙ ap (map g) (ap (λ y. take i xs ++ (y ∷ [])) e ∙ sym (take_more xs i d l)))) (p then q)
+
+  pub all_items : (xs : List X) (i : ℕ) → length xs ≤ i → {a b : Pen} → Writes a (flat_map f (map g (take i xs))) b → Writes a (flat_map f (map g xs)) b
+  all_items xs i l p = bytes_are (ap (λ ys. flat_map f (map g ys)) (take_all i xs l)) p
+
+-- bytes one by one
+pub next_byte : (bs : List ℕ) (i : ℕ) → i < length bs → {a b c : Pen} → Writes a (take i bs) b → Writes b (get_or bs i 0 ∷ []) c → Writes a (take (i + 1) bs) c
+next_byte bs i l p q = bytes_are (sym (take_more bs i 0 l)) (p then q)
 
 -- a buffer with room for all the bytes then begins with them, and goes on as it was
 module _ (out bs : List ℕ) (room : length bs ≤ length out) where

@@ -3,7 +3,8 @@ ghost use Rattle.std.specs.Prelude.{◌≡◌, ◌-◌, ◌≤◌, true, length,
 ghost use Rattle.words.specs.Words.{is_name};
 
 // A name, padded with zeros, so that names with the same bytes are the same record.
-#[derive(Clone, Copy)]
+// An array with a length beside it: no heap holds a name, and a name is copied.
+#[derive(Clone, Copy, PartialEq, Eq)]
 pub struct Name {
     pub(crate) bytes: [u8; 8],
     pub(crate) len: usize,

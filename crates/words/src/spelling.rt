@@ -1,12 +1,9 @@
-// Reading, comparing and writing names.
+// Reading and comparing names.
 ghost use Rattle.std.specs.Prelude.{◌≡◌, ◌+◌, ◌^◌, ◌<◌, ◌≤◌, false, [], ◌∷◌, length, Decides, MatchOption};
-ghost use Rattle.words.specs.Puts.{overlaid};
 ghost use Rattle.words.specs.Spelled.{spelled};
 ghost use Rattle.words.specs.Words.{inner, is_name};
 
 use crate::name::Name;
-use crate::put::put_bytes;
-use crate::same;
 
 // Whether the byte may stand in a name after the first.
 fn is_inner(b: u8) -> bool
@@ -19,15 +16,12 @@ fn is_inner(b: u8) -> bool
 pub fn is_name(part: &[u8]) -> bool
     ensures { result ≡ is_name part.now }
 {
-    if part.len() == 0 || part.len() > 8 {
-        return false;
-    }
-    for b in part {
-        if !is_inner(*b) {
-            return false;
+    match part {
+        [] => false,
+        [first, rest @ ..] => {
+            first.is_ascii_lowercase() && rest.iter().all(|b| is_inner(*b)) && rest.len() <= 7
         }
     }
-    part[0].is_ascii_lowercase()
 }
 
 impl Name {
@@ -67,23 +61,6 @@ impl Name {
     pub fn is(&self, part: &[u8]) -> bool
         ensures { Decides result (spelled self.now ≡ part.now) }
     {
-        same(self.spelling(), part)
-    }
-
-    // Whether the names have the same bytes.
-    pub fn equals(&self, other: &Name) -> bool
-        ensures { Decides result (spelled self.now ≡ spelled other.now) }
-    {
-        self.is(other.spelling())
-    }
-
-    // Writes the name, as `put_bytes` does.
-    pub fn put(&self, out: &mut [u8], at: usize) -> usize
-        requires { at + 8 < 2 ^ 64 }
-        ensures next { result ≡ at + length (spelled self.now) }
-        ensures near { result ≤ at + 8 }
-        ensures put { out.new ≡ overlaid out.old at (spelled self.now) }
-    {
-        put_bytes(out, at, self.spelling())
+        self.spelling() == part
     }
 }

@@ -5,9 +5,10 @@ ghost use Rattle.worked.specs.Operations.{Gives};
 use super::rows::Op;
 use field::{Field, divide};
 
-// The operation's result at two codes of the field.
+// The operation's result at two codes of the field. An operation is data here, since one list of rows serves fields of every
+// type, and a closure would be bound to one.
 pub fn perform<F: Field>(f: &F, op: Op, a: u32, b: u32) -> Option<u32>
-    requires { (F.Field.valid f.now) × ((a < (F.Field.model f.now).size) × (b < (F.Field.model f.now).size)) }
+    requires { (a < (F.Field.model f.now).size) × (b < (F.Field.model f.now).size) }
     ensures { Gives (F.Field.model f.now) op a b result }
 {
     match op {

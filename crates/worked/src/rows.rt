@@ -1,6 +1,7 @@
 // Operations with known results, kind by kind. The results are those of FIPS 197, or worked by hand, or by schoolbook
 // arithmetic on integers of any size in another language, with inverses as powers (Fermat).
 use Op::{Add, Div, Inv, Mul, Neg};
+use std::fmt;
 
 #[derive(Clone, Copy)]
 pub enum Op {
@@ -11,7 +12,20 @@ pub enum Op {
     Div,
 }
 
-// An operation at two codes (the second is 0 where it takes one) and its result, absent where there is none.
+impl fmt::Display for Op {
+    fn fmt<W: fmt::Write>(&self, f: &mut fmt::Formatter<W>) -> fmt::Result {
+        f.write_str(match self {
+            Op::Add => "add",
+            Op::Mul => "mul",
+            Op::Neg => "neg",
+            Op::Inv => "inv",
+            Op::Div => "div",
+        })
+    }
+}
+
+// An operation at two codes and its result, absent where there is none. It is a table of plain numbers, printed as it stands:
+// the second code is 0 where the operation takes one, and an operation with its own codes would make the rows no plainer.
 #[derive(Clone, Copy)]
 pub struct Row(pub Op, pub u32, pub u32, pub Option<u32>);
 

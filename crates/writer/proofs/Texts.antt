@@ -7,16 +7,13 @@ use Rattle.format.specs.Lines.{Line, text_of_lines}
 use Rattle.format.specs.Lines as lines
 use Rattle.format.specs.Records as records
 use Rattle.format.specs.Records.{part}
-use Rattle.equivalence.specs.Automata as automata
 use Rattle.shapes.specs.declared.shape.Kind.{Kind}
-use Rattle.rules.specs.Rules.{rule_model}
-use Rattle.rules.specs.declared.tables.Rule.{Rule}
 use Rattle.drafts.specs.Drafts.{part_of, side_part}
 use Rattle.drafts.specs.declared.Draft.{Draft}
 use Rattle.lines.specs.Recognized.{side_of}
-use Rattle.lines.specs.declared.line.Side.{Side}
-use Rattle.lines.specs.declared.line.Side.TheVariants.{A, B}
-use Rattle.line_writer.specs.Writing.{ended, rule_by}
+use Rattle.side.specs.declared.Side.{Side}
+use Rattle.side.specs.declared.Side.TheVariants.{A, B}
+use Rattle.line_writer.specs.Writing.{ended}
 use Rattle.writer.specs.Blocks.{field_block, rule_block, state_block, symbol_block}
 use Rattle.writer.specs.Declared.{Holds}
 use Rattle.drafts.specs.Drafts.{record_of}
@@ -24,10 +21,6 @@ use Rattle.drafts.specs.Drafts.{record_of}
 -- the lines of a table's entries are those of what it declares
 pub lines_are : {X Y : Type 0} (f : Y → Line) (g : X → Y) (xs : List X) {ys : List Y} → map g xs ≡ ys → map (λ x. f (g x)) xs ≡ map f ys
 lines_are f g xs e = sym (map-map f g xs) ∙ ap (map f) e
-
-pub rules_are : (d : lines.Side) {ss ss' : List records.Symbol} {ts ts' : List records.State} {us' : List (automata.Rule ℕ)} (us : List Rule) → ss ≡ ss' → ts ≡ ts' → map rule_model us ≡ us' → map (λ u. rule_by d ss ts (rule_model u)) us ≡ map (rule_by d ss' ts') us'
-rules_are d {ss} {ss'} {ts} {ts'} {us'} us p q e =
-    lines_are (rule_by d ss ts) rule_model us e ∙ ap (λ xs. map (rule_by d xs ts) us') p ∙ ap (λ xs. map (rule_by d ss' xs) us') q
 
 pub kind_is : {k l : Kind} {n m : ℕ} → k ≡ l → n ≡ m → ended (lines.names_field k n) ≡ ended (lines.names_field l m)
 kind_is {k} {l} {n} {m} p q = ap (λ x. ended (lines.names_field x n)) p ∙ ap (λ x. ended (lines.names_field l x)) q

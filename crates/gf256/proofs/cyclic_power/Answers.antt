@@ -2,13 +2,9 @@ use Rattle.polynomials.proofs.Laws.{three_again}
 use Rattle.gf256.proofs.cyclic_power.Goals as goal
 use Rattle.gf256.proofs.cyclic_power.Goals.{then-n-lt255, else-n-lt255}
 
-pub returns : goal.returns
-returns c =
-    record {
-      value =
-          elim c.if-n-lt255.branch [
-            | then-n-lt255 w ↦ cc (c.power.ensures, w.i-is)
-            | else-n-lt255 w ↦ cc (c.power.ensures, w.i-is, three_again c.args.n w.if-n-lt255.false)
-          ];
-      below = c.power.type_inv;
-    }
+pub returns-clause-value : goal.returns-clause-value
+returns-clause-value c =
+    elim c.if-n-lt255.branch [
+      | then-n-lt255 w ↦ cc (c.power.ensures, w.i-is)
+      | else-n-lt255 w ↦ cc (c.power.ensures, w.i-is, three_again c.args.n w.if-n-lt255.false)
+    ]

@@ -1,8 +1,7 @@
-use Rattle.std.proofs.Common.{[], ◌∷◌, decimal, arith}
-use Rattle.line_writer.proofs.Writes.{wrote, ◌then◌, bytes_are, line_is}
+use Rattle.std.proofs.Common.{[], ◌∷◌, decimal}
+use Rattle.words.proofs.Puts.{◌then◌, bytes_are}
+use Rattle.line_writer.proofs.Writes.{line_is}
 use Rattle.line_writer.proofs.put_symbol.Goals as goal
 
-pub returns : goal.returns
-returns c =
-    let n = c.put-named.ensures in
-    record { near = omega arith; puts = bytes_are (line_is _ (decimal c.args.s.now.rank ∷ [])) (wrote n.next n.put then c.put_last.ensures.puts) }
+pub returns-clause-writes : goal.returns-clause-writes
+returns-clause-writes c = bytes_are (line_is _ (decimal c.args.symbol.now.rank ∷ [])) (c.name.ensures.writes then c.put_last.ensures.writes)

@@ -1,17 +1,17 @@
-use Rattle.std.proofs.Common.{◌≤◌, length, arith}
-use Rattle.std.proofs.ByRecursion.{All-more}
+use Rattle.std.proofs.Common.{◌≡◌, Some, None, length, arith, rules}
+use borrow.Author.Tests.{tests}
+use Rattle.std.specs.Prelude.{◌≢◌}
+use Rattle.std.proofs.lemmas.Iterator.{IsFirst-from_position, YieldsList-from_slice}
 use Rattle.std.proofs.lemmas.List.{take_all}
-use Rattle.words.proofs.Lines.{cut_at}
+use Rattle.words.proofs.Lines.{cut_at, lacks_before}
 use Rattle.words.proofs.cut.Goals as goal
 
-pub loop-i-preserved : goal.loop-i-preserved
-loop-i-preserved c = All-more _ c.args.text.now c.loop-i.i 0 c.loop-i-test.true c.loop-i.invariant c.if-b-stop.false
-
-pub returns-then-b-stop : goal.returns-then-b-stop
-returns-then-b-stop c =
-    cut_at c.args.stop c.args.text.now c.loop-i.i c.loop-i-test.true c.if-b-stop.true c.loop-i.invariant
+pub returns-in_err-i : goal.returns-in_err-i
+returns-in_err-i c =
+    let none = IsFirst-from_position _ _ None (λ b. b ≡ c.args.stop) (λ b. b ≢ c.args.stop) c.in_err-i.ensures.ran (YieldsList-from_slice c.args.text.now cc) (λ x q k. search (rules, tests)) (λ x q k. search (rules, tests)) in
+    rw c.from_residual.ensures (rw (take_all (length c.args.text.now) c.args.text.now (omega arith)) at (lacks_before c.args.stop c.args.text.now _ (omega arith) none))
 
 pub returns : goal.returns
 returns c =
-    let all : length c.args.text.now ≤ c.loop-i.i = omega arith in
-    rw (take_all c.loop-i.i c.args.text.now all) at c.loop-i.invariant
+    let (less, here, before) = IsFirst-from_position _ _ (Some c.in_ok-i.i) (λ b. b ≡ c.args.stop) (λ b. b ≢ c.args.stop) c.in_ok-i.ensures.ran (YieldsList-from_slice c.args.text.now cc) (λ x q k. search (rules, tests)) (λ x q k. search (rules, tests)) in
+    cut_at c.args.stop c.args.text.now c.in_ok-i.i less (here 0) (lacks_before c.args.stop c.args.text.now c.in_ok-i.i (omega arith) before)

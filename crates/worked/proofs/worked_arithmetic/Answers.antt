@@ -1,20 +1,18 @@
-use Rattle.std.proofs.Common.{◌≡◌, [], ◌∷◌, Some, sym, ap, ◌∙◌, subst, ap₂}
+use Rattle.std.proofs.Common.{◌≡◌, [], ◌∷◌, Some, ap, ◌∙◌, ap₂}
 use Rattle.field.specs.Algebra.{Algebra, inverse}
 use Rattle.prime.specs.Residues.{residues}
-use Rattle.extension.specs.Extension.{extension, Extends}
+use Rattle.extension.specs.Extension.{extension}
 use Rattle.worked.specs.Table.{nine}
-use Rattle.worked.proofs.Values.{arithmetic_holds, nine_extends}
+use Rattle.worked.proofs.Values.{arithmetic_holds}
 use Rattle.worked.proofs.worked_arithmetic.Goals as goal
-
-pub new-nine-requires : goal.new-nine-requires
-new-nine-requires c = (tt, subst (λ m. Extends (residues m) 0 2) (sym c.new.ensures.value) nine_extends)
 
 pub returns : goal.returns
 returns c =
     let h = arithmetic_holds in
     let r = c.new-nine.result in
     let model : extension (residues r.base.modulus) r.u r.v ≡ nine =
-    ap (λ p. extension (residues p.base.modulus) p.u p.v) c.new-nine.ensures.value
+    ap (λ p. extension (residues p.modulus) r.u r.v) c.new-nine.ensures.base
+    ∙ ap₂ (λ u v. extension (residues c.new.result.modulus) u v) c.new-nine.ensures.coefficients.0 c.new-nine.ensures.coefficients.1
     ∙ ap (λ m. extension (residues m) 0 2) c.new.ensures.value in
     record {
       defined = h;

@@ -1,10 +1,14 @@
-use Rattle.std.proofs.Common.{◌∙◌, zero-add}
-use Rattle.drafts.specs.Drafts.{record_of}
-use Rattle.line_writer.proofs.Writes.{◌then◌, bytes_are}
-use Rattle.writer.proofs.Texts.{text_is}
+use Rattle.std.proofs.Common.{◌∙◌, rules, sym, arith}
+use Rattle.writer.proofs.Lengths.{text_short}
 use Rattle.writer.proofs.put_record.Goals as goal
 
 pub returns : goal.returns
 returns c =
-    let all = bytes_are (text_is (record_of c.args.d.now)) (c.put_field-field.ensures.puts then c.put_symbols-symbols.ensures.puts then c.put_both_states-states.ensures.puts then c.put_both_rules.ensures.puts) in
-    record { next = all.place ∙ zero-add _; put = all.put }
+    let same = sym (c.put_text.ensures.same_buffer ∙ c.new-pen.ensures.same_buffer) in
+    let short = text_short c.args.d.now in
+    let place = c.put_text.ensures.place in
+    let put = c.put_text.ensures.put in
+    record {
+      next = omega (arith, short, place, c.place.ensures, c.new-pen.ensures.start);
+      put = ◌∙◌ {b = c.put_text.new.pen.out.now} (search (rules, same)) (rw (c.new-pen.ensures.holds, c.new-pen.ensures.start) at put);
+    }

@@ -1,18 +1,15 @@
-use Rattle.std.proofs.Common.{sym, ◌∙◌}
-use Rattle.lines.proofs.Children.{names_cut, names_last, names_tell, first_before}
+use Rattle.std.proofs.Common.{◌≡◌, true, false, rules}
+use borrow.Author.Tests.{tests}
+use Rattle.std.specs.Prelude.{◌==◌}
+use Rattle.std.proofs.lemmas.Iterator.{cases_from_all}
+use Rattle.std.proofs.lemmas.Iterator.Splits.{YieldsList-from_slice_split}
+use Rattle.words.specs.Words.{is_name}
+use Rattle.lines.proofs.Children.{names_tell, pieces_split}
 use Rattle.lines.proofs.kinds.are_names.Goals as goal
-
-pub returns-then-not-is_name : goal.returns-then-not-is_name
-returns-then-not-is_name c =
-    names_tell _ _ (sym c.loop-name.invariant ∙ names_cut _ _ _ c.in-Some.ensures _ c.if-not-is_name.ensures)
-
-pub loop-name-smaller : goal.loop-name-smaller
-loop-name-smaller c = (first_before _ _ _ c.in-Some.ensures).1
-
-pub loop-name-preserved : goal.loop-name-preserved
-loop-name-preserved c =
-    sym (names_cut _ _ _ c.in-Some.ensures _ c.if-not-is_name.ensures) ∙ c.loop-name.invariant
 
 pub returns : goal.returns
 returns c =
-    names_tell _ _ (sym c.loop-name.invariant ∙ names_last _ c.in_default.ensures ∙ sym c.is_name-2.ensures)
+    names_tell c.args.part.now _ (pieces_split c.args.part.now) c.all.result
+    (cases_from_all _ _ c.all.result (λ p. is_name p ≡ true) (λ p. is_name p ≡ false) c.all.ensures.ran
+    (YieldsList-from_slice_split _ (λ b. b == 32) c.args.part.now c.split.ensures.rest c.split.ensures.done c.split.ensures.closure (λ x b q k. search (rules, tests)))
+    (λ x q k. search (rules, tests)) (λ x q k. search (rules, tests)))

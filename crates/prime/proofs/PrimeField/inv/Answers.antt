@@ -5,11 +5,11 @@ use Rattle.prime.specs.Primality.{admitted_prime}
 use Rattle.prime.specs.Residues.{residues}
 use Rattle.prime.proofs.PrimeField.inv.Goals as goal
 
-pub returns-then-a-eq0 : goal.returns-then-a-eq0
-returns-then-a-eq0 c =
+pub returns-then-a-eq0-clause-value : goal.returns-then-a-eq0-clause-value
+returns-then-a-eq0-clause-value c =
     let p = c.args.self.now.modulus in
     let none = no_inverse p (admitted_prime p c.args.self.now.listed) in
-    record { value = sym (ap (inverse (residues p)) c.if-a-eq0.true ∙ none); below = tt }
+    sym (ap (inverse (residues p)) c.if-a-eq0.true ∙ none)
 
 pub loop-x-preserved : goal.loop-x-preserved
 loop-x-preserved c =
@@ -22,10 +22,10 @@ loop-x-preserved c =
       rw c.mul-m.ensures.value (turn p c.args.a l.m l.x l.invariant.0 l.invariant.1 l.invariant.3),
     )
 
-pub returns : goal.returns
-returns c =
+pub returns-clause-value : goal.returns-clause-value
+returns-clause-value c =
     let p = c.args.self.now.modulus in
     let prime = admitted_prime p c.args.self.now.listed in
     let l = c.loop-x in
     let one = l.invariant.3 ∙ c.loop-x-test.false in
-    record { value = sym (inverse_found p prime c.args.a l.m c.requires.1 l.invariant.2 one); below = l.invariant.2 }
+    sym (inverse_found p prime c.args.a l.m c.requires l.invariant.2 one)

@@ -1,25 +1,21 @@
-use Rattle.std.proofs.Common.{map, length, sym, ap, ◌∙◌, arith}
-use Rattle.format.specs.Lines as lines
-use Rattle.format.specs.Lines.{opens, text_of_lines}
+use Rattle.std.proofs.Common.{map, length, refl, ap, ◌∙◌, arith}
+use Rattle.format.specs.Lines.{text_of_lines}
 use Rattle.shapes.specs.Shapes.{shape_kind, steps}
-use Rattle.std.proofs.lemmas.List.{length-take-le}
+use Rattle.words.proofs.Puts.{◌then◌, bytes_are, next_item, all_items}
 use Rattle.line_writer.specs.Writing.{ended, step_line}
-use Rattle.line_writer.proofs.Writes.{wrote, ◌then◌, bytes_are}
 use Rattle.writer.proofs.Texts.{kind_is}
 use Rattle.writer.proofs.blocks.put_field.Goals as goal
 
+pub loop-u-preserved : goal.loop-u-preserved
+loop-u-preserved c =
+    next_item ended step_line _ c.loop-u.u-index (0, 0) c.loop-u-test.true refl c.loop-u.invariant c.put_step.ensures.writes
+
 pub returns : goal.returns
 returns c =
-    let h = c.put_bytes-headed.ensures in
-    let o = c.put_bytes-opened.ensures in
-    let shape = c.shape-shape.ensures.value ∙ ap (λ g. g.shape) c.field.ensures in
-    let kind = c.kind_of.ensures ∙ ap shape_kind shape in
-    let all = c.steps_of-count.ensures.0 ∙ ap steps shape in
-    let count = sym (length-take-le c.steps_of-count.result.1 c.steps_of-count.result.0 (omega arith)) ∙ ap length all in
-    record {
-      near = omega arith;
-      puts = wrote {bytes = ended (opens lines.fields)} h.next h.put
-          then bytes_are (kind_is kind count) c.put_kind-kinded.ensures.puts
-          then wrote {bytes = ended (opens lines.steps)} o.next o.put
-          then bytes_are (ap (λ ss. text_of_lines (map step_line ss)) all) c.put_steps.ensures.puts;
-    }
+    let kind = c.kind.ensures ∙ ap shape_kind c.field-2.ensures in
+    let all = c.steps-steps.ensures ∙ ap steps c.field.ensures in
+    c.bytes.ensures
+    then bytes_are (kind_is kind (c.len.ensures.is ∙ ap length all)) c.put_kind.ensures.writes
+    then c.bytes-2.ensures
+    then bytes_are (ap (λ ss. text_of_lines (map step_line ss)) (c.items-u-items.ensures.are ∙ all))
+    (all_items ended step_line _ c.loop-u.u-index (omega arith) c.loop-u.invariant)

@@ -1,7 +1,9 @@
-use Rattle.std.proofs.Common.{◌+◌, ◌*◌, ◌≤◌, map, take}
+use Rattle.std.proofs.Common.{map, take}
 use Rattle.format.specs.Lines.{text_of_lines}
-use Rattle.line_writer.specs.Writing.{Puts, symbol_line}
+use Rattle.words.specs.Puts.{Writes}
+use Rattle.line_writer.specs.Writing.{symbol_line}
 use Rattle.writer.proofs.blocks.put_symbols.Given as goal
 
-abbrev pub invariant-loop-s : goal.invariant-loop-s
-invariant-loop-s l = (l.place ≤ l.initial.place + 20 * l.s-index) × Puts l.initial.out l.initial.place (text_of_lines (map symbol_line (take l.s-index l.symbols))) l.place l.out
+abbrev pub invariant-loop-symbol : goal.invariant-loop-symbol
+invariant-loop-symbol l =
+    Writes l.initial.pen (text_of_lines (map symbol_line (take l.symbol-index l.symbol-items))) l.pen

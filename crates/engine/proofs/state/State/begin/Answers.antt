@@ -1,17 +1,11 @@
-use Rattle.std.proofs.Common.{arith}
-use Rattle.engine.specs.States.{session_of}
-use Rattle.engine.proofs.Kept.{begins}
+use Rattle.std.proofs.Common.{rules, arith, subst}
+use Rattle.session.proofs.Validity.{as_valid, begun_valid}
+use Rattle.session.specs.Sessions.{begun}
+use Rattle.session.specs.Validity.{Valid}
 use Rattle.engine.proofs.state.State.begin.Goals as goal
 
-pub returns : goal.returns
-returns g c =
-    let s = c.blank.result in
-    let e = c.blank.ensures in
-    record {
-      holds = e.holds;
-      field = e.field;
-      well =
-          begins g.F.Field.model c.args.field s.field e.field c.args.a c.args.b (session_of s)
-          (omega (arith, (g.met.F.Field.laws c.args.field c.requires.0).least))
-          e.holds;
-    }
+pub invariant_of-result : goal.invariant_of-result
+invariant_of-result g c =
+    let A = g.F.Field.model c.new.result.field in
+    let begins = begun_valid A c.args.a c.args.b (omega (arith, (g.met.F.Field.laws c.new.result.field).least)) in
+    record { valid = subst (Valid A) (search rules) (as_valid A c.args.a c.args.b (begun c.args.a c.args.b) begins) }

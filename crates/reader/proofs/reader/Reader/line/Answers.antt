@@ -11,8 +11,8 @@ use Rattle.reader.proofs.reader.Reader.line.Goals as goal
 
 pub returns-then-not-may_follow : goal.returns-then-not-may_follow
 returns-then-not-may_follow c =
-    let l = line_of c.in-Some.line in
-    let p = c.in-Some.ensures in
+    let l = line_of c.in_ok-line.line in
+    let p = rw c.in_ok-line.ensures.ok_part at c.parse.ensures in
     let d = meaning c.args.self.now in
     inl (
       refl,
@@ -24,8 +24,8 @@ returns-then-not-may_follow c =
 
 pub returns : goal.returns
 returns c =
-    let p = c.in-Some.ensures in
+    let p = rw c.in_ok-line.ensures.ok_part at c.parse.ensures in
     let may = c.if-not-may_follow.ensures.0 refl in
     MatchResult-weaker c.take.result c.take.ensures
-    (λ _ x. (line_of c.in-Some.line, p.0, may, p.1, x.0, x.1))
-    (λ _ x. inr (line_of c.in-Some.line, p.0, may, p.1, x))
+    (λ _ x. (line_of c.in_ok-line.line, p.0, may, p.1, x.0, x.1))
+    (λ _ x. inr (line_of c.in_ok-line.line, p.0, may, p.1, x))
