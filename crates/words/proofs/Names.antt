@@ -2,9 +2,10 @@
 use Rattle.std.proofs.Common.{◌≡◌, ℕ, ◌-◌, ◌<◌, ◌≤◌, true, false, List, [], ◌∷◌, ◌++◌, length, get_or, take, drop, replicate, Decides, sym, refl, ap, ◌∙◌, subst, arith, length-append, length-drop, take-append-drop}
 use denote.Struct.Props.{props}
 use mathlib.Core.HLevel.{is_prop→PathP}
+use Rattle.std.proofs.Math.Bool.{and-true}
 use Rattle.std.specs.List.{list_all, AllByRecursion, AllWithin}
 use Rattle.std.proofs.ByRecursion.{All-get_or, All-from_get_or, Decides-by_and}
-use Rattle.std.proofs.lemmas.Bool.{and_parts, or_left, leb-true, both_ways}
+use Rattle.std.proofs.lemmas.Bool.{and_parts, or_left, le-leb, leb-true, both_ways}
 use Rattle.std.proofs.lemmas.List.{length-take-le, take_at, drop_at, drop-replicate}
 use Rattle.std.specs.Prelude.{nat_le}
 use Rattle.words.specs.declared.name.Name.{Name}
@@ -39,11 +40,11 @@ pub name_lacks : (b : ℕ) → inner b ≡ false → (bs : List ℕ) → is_name
 name_lacks b out bs h =
     All-from_get_or _ bs 0 (λ i less e. both_ways (inner b) out (subst (λ x. inner x ≡ true) e ((named bs h).rest i less)))
 
--- a small letter, and the bytes after it where each may stand in a name
-pub name_is : (part rest : List ℕ) (b : ℕ) → part ≡ b ∷ rest → small b ≡ true → AllWithin (λ x. inner x ≡ true) rest 0 (length rest) → nat_le (length rest) 7 ≡ is_name part
-name_is part rest b e first h =
-    let all = (all_inner rest).1 (All-from_get_or (λ x. inner x ≡ true) rest 0 (λ k less. h k 0 (omega arith) less)) in
-    rw (e, first, all)
+-- a small letter and at most seven bytes after it are a name where each of these may stand in one
+pub name_is : (part rest : List ℕ) (b : ℕ) → part ≡ b ∷ rest → small b ≡ true → length rest ≤ 7 → list_all inner rest ≡ is_name part
+name_is part rest b e first short =
+    let t : nat_le (length rest) 7 ≡ true = le-leb (length rest) 7 short in
+    rw (e, first, t) (sym (and-true (list_all inner rest)))
 
 -- bs copied over the front of eight places, where a name keeps it
 module _ (copy bs under : List ℕ) (same : copy ≡ bs) (name : is_name bs ≡ true) where

@@ -1,10 +1,12 @@
 -- How writes follow one another.
-use Rattle.std.proofs.Common.{◌≡◌, ℕ, suc, ◌+◌, ◌-◌, ◌≤◌, ◌<◌, ◌^◌, List, [], ◌∷◌, ◌++◌, map, length, get_or, take, drop, set, sym, refl, ap, ◌∙◌, subst, inl, inr, add-zero, add-suc, suc-add, zero-add, arith, length-append}
+use Rattle.std.proofs.Common.{◌≡◌, ℕ, suc, ◌+◌, ◌-◌, ◌≤◌, ◌<◌, ◌^◌, List, [], ◌∷◌, ◌++◌, map, length, get_or, take, drop, set, sym, refl, ap, ◌∙◌, subst, inl, inr, add-zero, add-suc, suc-add, zero-add, arith, length-append, length-take-le, take-append-drop}
 use Rattle.std.specs.Prelude.{min}
 use Rattle.std.specs.List.{flat_map}
 use lib.Seq.{sets, length-sets, sets-eq}
 use Rattle.std.proofs.lemmas.Bool.{cases_lt}
-use Rattle.std.proofs.lemmas.List.{take_at, drop_at, set_past, take_all, take_more, flat_map_more, map_push}
+use Rattle.std.proofs.lemmas.List.{take_at, drop_at, set_past, take_all, drop_all, drop-drop, take_more, flat_map_more, map_push}
+use mathlib.Core.List.{append_assoc}
+use borrow.Rule.Slice.PartMut.{put_mid}
 use Rattle.words.specs.Puts.{Writes, overlaid}
 use Rattle.words.specs.declared.pen.Pen.{Pen}
 
@@ -24,6 +26,31 @@ put_append out at (x ∷ xs) ys = rw (add-suc, ← suc-add) (put_append (set out
 put_past : (out : List ℕ) (at : ℕ) (bs : List ℕ) → length out ≤ at → overlaid out at bs ≡ out
 put_past out at [] past = refl
 put_past out at (b ∷ bs) past = rw (set_past out at b past) (put_past out (suc at) bs (omega arith))
+
+-- what a buffer takes of the bytes is copied into the part of it that they reach
+pub put_part : (out : List ℕ) (at : ℕ) (bs : List ℕ) (from to : ℕ) → from ≡ min at (length out) → to ≡ min (at + length bs) (length out) → overlaid out at bs ≡ put_mid from (to - from) out (take (to - from) bs)
+put_part out at bs from to f t =
+    elim (cases_lt at (length out)) [
+      | inl l ↦
+          let a : from ≡ at = omega arith in
+          let front : List ℕ = take (to - from) bs in
+          let n : length front ≡ to - from = length-take-le (to - from) bs (omega arith) in
+          let whole : overlaid out at bs ≡ overlaid (overlaid out at front) (at + length front) (drop (to - from) bs) =
+              ap (overlaid out at) (sym (take-append-drop (to - from) bs)) ∙ sym (put_append out at front (drop (to - from) bs)) in
+          let none : overlaid (overlaid out at front) (at + length front) (drop (to - from) bs) ≡ overlaid out at front =
+              elim (cases_lt (length out) (at + length bs)) [
+                | inl m ↦ put_past (overlaid out at front) (at + length front) (drop (to - from) bs) (omega (arith, n, put_length out at front))
+                | inr m ↦ ap (overlaid (overlaid out at front) (at + length front)) (drop_all (to - from) bs (omega arith))
+              ] in
+          whole ∙ none ∙ overlaid_is out at front ∙ sets-eq front out at (omega arith) ∙ append_assoc (take at out) front _
+          ∙ ap (λ k. take k out ++ (front ++ drop (k + length front) out)) (sym a)
+          ∙ ap (λ k. take from out ++ (front ++ drop (from + k) out)) n
+          ∙ ap (λ l. take from out ++ (front ++ l)) (sym (drop-drop (to - from) from out))
+      | inr l ↦
+          let k : to - from ≡ 0 = omega arith in
+          let a : from ≡ length out = omega arith in
+          put_past out at bs l ∙ rw (k, a) (sym (take-append-drop (length out) out))
+    ]
 
 -- a place that stopped at one past the end is as good as the place after it
 put_mostped : (out : List ℕ) (at most : ℕ) (bs : List ℕ) → length out ≤ most → overlaid out (min at most) bs ≡ overlaid out at bs

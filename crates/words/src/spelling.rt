@@ -19,7 +19,7 @@ pub fn is_name(part: &[u8]) -> bool
     match part {
         [] => false,
         [first, rest @ ..] => {
-            first.is_ascii_lowercase() && rest.iter().all(|b| is_inner(*b)) && rest.len() <= 7
+            rest.len() <= 7 && first.is_ascii_lowercase() && rest.iter().all(|b| is_inner(*b))
         }
     }
 }
@@ -62,5 +62,12 @@ impl Name {
         ensures { Decides result (spelled self.now ≡ part.now) }
     {
         self.spelling() == part
+    }
+
+    // Whether the names have the same bytes; `==` says the same of their records.
+    pub fn equals(&self, other: &Name) -> bool
+        ensures { Decides result (spelled self.now ≡ spelled other.now) }
+    {
+        self.is(other.spelling())
     }
 }

@@ -55,9 +55,11 @@ impl<'a> Pen<'a> {
     pub fn bytes(&mut self, bytes: &[u8])
         ensures { Writes self.old bytes.now self.new }
     {
-        for b in bytes {
-            self.byte(*b);
-        }
+        let from = self.at.min(self.out.len());
+        let next = self.at.saturating_add(bytes.len());
+        let to = next.min(self.out.len());
+        self.out[from..to].copy_from_slice(&bytes[..to - from]);
+        self.at = next;
     }
 
     // Writes `n` in decimal.

@@ -1,5 +1,14 @@
-use Rattle.words.proofs.Puts.{next_byte}
+use Rattle.std.proofs.Common.{◌-◌, ◌∙◌, sym, ap, refl, arith}
+use borrow.Rule.Slice.PartMut.{put_mid}
+use Rattle.words.proofs.Puts.{put_part}
 use Rattle.words.proofs.pen.Pen.bytes.Goals as goal
 
-pub loop-b-preserved : goal.loop-b-preserved
-loop-b-preserved c = next_byte _ _ c.loop-b-test.true c.loop-b.invariant c.byte.ensures
+pub returns : goal.returns
+returns c =
+    record {
+      same_buffer = refl;
+      place = omega (arith, c.saturating_add-next.ensures);
+      put =
+          ap (put_mid c.min-from.result (c.min-to.result - c.min-from.result) c.args.self.now.out.now) c.copy_from_slice.ensures.after
+          ∙ sym (put_part _ _ _ _ _ c.min-from.ensures (omega (arith, c.min-to.ensures, c.saturating_add-next.ensures, c.args.self.now.short)));
+    }
