@@ -20,8 +20,7 @@ impl TryFrom<&[u8]> for Record {
     ghost try_from_gives = { λ text r. MatchResult r (λ s. StandsFor text.now (declared s)) (Refused text.now) };
 
     fn try_from(text: &[u8]) -> Result<Record, Fault> {
-        let draft = reader::read(text)?;
-        Ok(Record { draft })
+        Record::from_text(text)
     }
 }
 
@@ -30,7 +29,8 @@ impl Record {
     pub fn from_text(text: &[u8]) -> Result<Record, Fault>
         ensures { MatchResult result (λ s. StandsFor text.now (declared s)) (Refused text.now) }
     {
-        Record::try_from(text)
+        let draft = reader::read(text)?;
+        Ok(Record { draft })
     }
 
     // That of the example text.

@@ -1,7 +1,7 @@
 use Rattle.std.proofs.lemmas.Result.{err_from_is_err_and}
 use Rattle.drafts.specs.Drafts.{record_of}
 use Rattle.text.proofs.Standing.{refused, stands_for, valid}
-use Rattle.text.proofs.exchange.RecordTryFromRefSliceU8.try_from.Goals as goal
+use Rattle.text.proofs.record.Record.from_text.Goals as goal
 
 pub returns-in_err-draft : goal.returns-in_err-draft
 returns-in_err-draft c =
