@@ -19,6 +19,17 @@ length_grown ts (e ∷ es) =
     let t : Tree = node e.symbol (named ts e.children) in
     omega (arith, length_grown (ts ++ (t ∷ [])) es, length_push ts t)
 
+-- one more entry: its tree comes last
+pub grown_push :
+    (ts : List Tree) (es : List Entry) (e : Entry)
+    → grown ts (es ++ (e ∷ [])) ≡ grown ts es ++ (node e.symbol (named (grown ts es) e.children) ∷ [])
+grown_push ts [] e = refl
+grown_push ts (d ∷ es) e = grown_push (ts ++ (node d.symbol (named ts d.children) ∷ [])) es e
+
+pub trees_push :
+    (es : List Entry) (e : Entry) → trees (es ++ (e ∷ [])) ≡ trees es ++ (node e.symbol (named (trees es) e.children) ∷ [])
+trees_push = grown_push []
+
 last_map : {X : Type 0} (f : Tree → X) (x : X) (ts : List Tree) → 1 ≤ length ts → last_or x (map f ts) ≡ f (last_of ts)
 last_map f x [] h = absurd (omega arith)
 last_map f x (t ∷ []) h = refl

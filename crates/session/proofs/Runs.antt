@@ -1,5 +1,5 @@
--- Runs with their refused calls left out, and what their calls decide. Assumes nothing.
-use Rattle.std.proofs.Common.{◌≡◌, ℕ, List, [], ◌∷◌, Ok, Err, sym, refl, ap, ◌∙◌, subst, ap₂, arith}
+-- Runs carried from call to call, runs with their refused calls left out, and what their calls decide. Assumes nothing.
+use Rattle.std.proofs.Common.{◌≡◌, ℕ, List, [], ◌∷◌, ◌++◌, Ok, Err, sym, refl, ap, ◌∙◌, subst, ap₂, arith}
 use Rattle.field.specs.Algebra.{Algebra}
 use Rattle.session.specs.Calls.{Call, Outcome, Does}
 use Rattle.session.specs.Runs.{Event, Run, accepted, calls}
@@ -8,6 +8,20 @@ use Rattle.session.proofs.Outcomes.{one_outcome}
 
 abbrev pub made : (c : Call) → Outcome c → Event
 made c o = record { call = c; outcome = o }
+
+-- one run after another
+pub run_append :
+    (A : Algebra) (s t u : Session) (es fs : List Event) → Run A s es t → Run A t fs u → Run A s (es ++ fs) u
+run_append A s t u [] fs h k = subst (λ (z : Session). Run A z fs u) h k
+run_append A s t u (e ∷ es) fs h k = (h.0, h.1, run_append A h.0 t u es fs h.2 k)
+
+-- the next call
+pub run_more :
+    (A : Algebra) (s t u : Session) (es : List Event) (c : Call) (o : Outcome c)
+    → Run A s es t
+    → Does A t c o u
+    → Run A s (es ++ (made c o ∷ [])) u
+run_more A s t u es c o h d = run_append A s t u es (made c o ∷ []) h (u, d, refl)
 
 accepted_step :
     (A : Algebra) (s u t : Session) (c : Call) (o : Outcome c) (es : List Event)
