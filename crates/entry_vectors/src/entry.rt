@@ -9,7 +9,7 @@ ghost use Rattle.vectors.specs.Tables.{vectors_of, width_of};
 ghost use Rattle.entry_vectors.specs.Combining.{Earlier, added};
 
 use crate::Valuation;
-use crate::product::children;
+use crate::product::{children, through};
 use automaton::{Automaton, Entry};
 use field::Field;
 use vectors::Vectors;
@@ -26,6 +26,29 @@ fn add_at<F: Field>(f: &F, vector: &mut [u32], state: u32, x: u32)
     }
     let at = state as usize - 1;
     vector[at] = f.add(x, vector[at]);
+}
+
+// The vector of a symbol over the vectors of its children, in the first places, as many as there are states. The earlier
+// vectors are lent, for whoever keeps them.
+pub fn entry_vector<F: Field>(f: &F, m: &Automaton, e: &Entry, earlier: &Vectors) -> [u32; 12]
+    requires sound { Sound (F.Field.model f.now).size (automaton_of m.now) }
+    requires codes { Codes (F.Field.model f.now).size (vectors_of earlier.now) }
+    requires wide { width_of earlier.now ≡ many (automaton_of m.now) }
+    requires earlier { Earlier (vectors_of earlier.now) (entry_of e.now) }
+    ensures value { take (many (automaton_of m.now)) result ≡ entry_vector (ops (F.Field.model f.now)) (automaton_of m.now) (vectors_of earlier.now) (entry_of e.now) }
+    ensures below { AllBelow (F.Field.model f.now).size result }
+    ensures places { length result ≡ 12 }
+{
+    let children = children(e);
+    let mut vector = [0; 12];
+    for rule in m.rules().iter().rev() {
+        if rule.symbol == e.symbol {
+            let product = through(f, earlier, children, rule.children.items());
+            let x = f.mul(rule.weight, product);
+            add_at(f, &mut vector, rule.target, x);
+        }
+    }
+    vector
 }
 
 impl<'a, F: Field> Valuation<'a, F> {
@@ -55,6 +78,13 @@ impl<'a, F: Field> Valuation<'a, F> {
         }
     }
 
+    // The vectors so far, lent.
+    pub fn vectors(&self) -> &Vectors
+        ensures { result.now ≡ self.now.vectors }
+    {
+        &self.vectors
+    }
+
     // The vector of one entry more.
     pub fn push(&mut self, e: &Entry)
         requires room { length (vectors_of self.old.vectors) < 64 }
@@ -74,15 +104,6 @@ impl<'a, F: Field> Valuation<'a, F> {
         ensures below { AllBelow (F.Field.model self.now.field.now).size result }
         ensures places { length result ≡ 12 }
     {
-        let children = children(e);
-        let mut vector = [0; 12];
-        for rule in self.automaton.rules().iter().rev() {
-            if rule.symbol == e.symbol {
-                let product = self.through(children, rule.children.items());
-                let x = self.field.mul(rule.weight, product);
-                add_at(self.field, &mut vector, rule.target, x);
-            }
-        }
-        vector
+        entry_vector(self.field, self.automaton, e, &self.vectors)
     }
 }

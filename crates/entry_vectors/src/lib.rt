@@ -17,6 +17,8 @@ mod entry;
 mod product;
 mod value;
 
+pub use entry::entry_vector;
+
 // The vectors of some entries, in an automaton over a field.
 #[derive(Drop)]
 pub struct Valuation<'a, F: Field> {
