@@ -2,7 +2,7 @@
 // size; code 0 is zero and code 1 is one.
 #![tactic(auto)]
 
-ghost use Rattle.std.specs.Prelude.{◌≡◌, ◌<◌, IfSome};
+ghost use Rattle.std.specs.Prelude.{◌≡◌, ◌<◌, IfSome, IsTrue};
 ghost use Rattle.field.specs.Algebra.{Algebra, Lawful, inverse, Quotient};
 
 // Every value of a type that implements it is a field. That codes are below the size is asked by each operation: it depends on the
@@ -35,6 +35,14 @@ pub trait Field {
         requires { a < (model self.now).size }
         ensures value { result ≡ inverse (model self.now) a }
         ensures below { IfSome result (λ b. b < (model self.now).size) };
+
+    // Whether it can be told at once that another value is the same field. False says nothing, and a field that has no quick way to tell
+    // leaves it at that.
+    fn is_same(&self, other: &Self) -> bool
+        ensures { IsTrue result → model other.now ≡ model self.now }
+    {
+        false
+    }
 
     ghost laws: { (f : Self) → Lawful (model f) };
 }

@@ -3,7 +3,7 @@
 // the base 3.
 #![tactic(auto)]
 
-ghost use Rattle.std.specs.Prelude.{◌≡◌, ◌<◌, MatchOption};
+ghost use Rattle.std.specs.Prelude.{◌≡◌, ◌<◌, MatchOption, IsTrue};
 ghost use Rattle.field.specs.Algebra.{ops};
 ghost use Rattle.field.specs.Ops.{power};
 ghost use Rattle.polynomials.specs.Polynomials.{gf256};
@@ -86,5 +86,12 @@ impl Field for Byte {
     fn inv(&self, a: u32) -> Option<u32> {
         let i = logarithm(a as u8)?;
         Some(cyclic_power(255 - i as u32))
+    }
+
+    // There is only one.
+    fn is_same(&self, _: &Byte) -> bool
+        ensures { IsTrue result }
+    {
+        true
     }
 }

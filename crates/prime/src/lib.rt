@@ -1,7 +1,7 @@
 // Prime fields: the residues modulo a prime of a fixed list. That each of the list is prime is proved, and not assumed.
 #![tactic(auto)]
 
-ghost use Rattle.std.specs.Prelude.{◌≡◌, true};
+ghost use Rattle.std.specs.Prelude.{◌≡◌, true, IsTrue, ◌↔◌};
 ghost use Rattle.prime.specs.Moduli.{IsPrime, admitted};
 ghost use Rattle.prime.specs.Residues.{residues};
 ghost use Rattle.prime.specs.Inverses.{residue_field};
@@ -78,5 +78,11 @@ impl Field for Prime {
             x = p % x;
         }
         Some(m)
+    }
+
+    fn is_same(&self, other: &Prime) -> bool
+        ensures { IsTrue result ↔ (other.now.modulus ≡ self.now.modulus) }
+    {
+        other.modulus == self.modulus
     }
 }

@@ -1,7 +1,7 @@
 // The quadratic extension of any field of at most 65,536 elements, itself a field; so it can be extended once more.
 #![tactic(auto)]
 
-ghost use Rattle.std.specs.Prelude.{ℕ, ◌≡◌, ◌*◌, ◌<◌, ◌≤◌, MatchOption, ⊤};
+ghost use Rattle.std.specs.Prelude.{ℕ, ◌≡◌, ◌*◌, ◌<◌, ◌≤◌, MatchOption};
 ghost use Rattle.field.specs.Algebra.{ops};
 ghost use Rattle.extension.specs.Extension.{norm, encode, decode, conjugate_product, extension, LeastRoot, Root, Extends};
 ghost use Rattle.extension.proofs.Laws.{extension_lawful};
@@ -22,13 +22,21 @@ pub struct Pair<F: Field> {
 }
 
 // By hand, since neither is derived over the ghost fields of a generic struct.
-impl<F: Field + Copy> Clone for Pair<F> {
-    ghost is_clone = { λ x y. y ≡ x };
+impl<F: Field + Clone> Clone for Pair<F> {
+    // A pair over a clone of the base, with the same coefficients; and the same pair, where that clone is the base itself.
+    ghost is_clone = { λ x y. F.is_clone x.base y.base × (y.u ≡ x.u) × (y.v ≡ x.v) × (y.base ≡ x.base → y ≡ x) };
 
-    ghost is_infallible = { λ _. ⊤ };
+    // Where the base's clone does not fail, and any clone of it is the same field.
+    ghost is_infallible = { λ x. F.is_infallible x.base × ((b : F) → F.is_clone x.base b → F.Field.model b ≡ F.Field.model x.base) };
 
+    // `Clone` has no law that a clone is the same field. Where the base can't tell at once, its clone is searched for a root, and where
+    // it has no extension by u and v this fails.
     fn clone(&self) -> Result<Pair<F>, AllocError> {
-        Ok(*self)
+        let base = self.base.clone()?;
+        if self.base.is_same(&base) {
+            return Ok(Pair::new(base, self.u, self.v));
+        }
+        extend(base, self.u, self.v).ok_or(AllocError)
     }
 }
 
@@ -174,5 +182,10 @@ impl<F: Field> Field for Pair<F> {
         let (a, b) = split(x, self.base.size());
         let i = self.base.inv(self.norm(a, b))?;
         Some(self.conjugate_times(a, b, i))
+    }
+
+    // The same extension of the same base.
+    fn is_same(&self, other: &Pair<F>) -> bool {
+        self.base.is_same(&other.base) && self.u == other.u && self.v == other.v
     }
 }

@@ -43,4 +43,17 @@ impl Field for Shape {
     fn inv(&self, a: u32) -> Option<u32> {
         of_each!(self, f => f.inv(a))
     }
+
+    // The same one of the six, over the same field.
+    fn is_same(&self, other: &Shape) -> bool {
+        match (self, other) {
+            (Shape::Prime(f), Shape::Prime(g)) => f.is_same(g),
+            (Shape::Byte(f), Shape::Byte(g)) => f.is_same(g),
+            (Shape::PrimePair(f), Shape::PrimePair(g)) => f.is_same(g),
+            (Shape::BytePair(f), Shape::BytePair(g)) => f.is_same(g),
+            (Shape::PrimeTower(f), Shape::PrimeTower(g)) => f.is_same(g),
+            (Shape::ByteTower(f), Shape::ByteTower(g)) => f.is_same(g),
+            _ => false,
+        }
+    }
 }
