@@ -36,12 +36,12 @@ put_part out at bs from to f t =
           let front : List ℕ = take (to - from) bs in
           let n : length front ≡ to - from = length-take-le (to - from) bs (omega arith) in
           let whole : overlaid out at bs ≡ overlaid (overlaid out at front) (at + length front) (drop (to - from) bs) =
-              ap (overlaid out at) (sym (take-append-drop (to - from) bs)) ∙ sym (put_append out at front (drop (to - from) bs)) in
+          ap (overlaid out at) (sym (take-append-drop (to - from) bs)) ∙ sym (put_append out at front (drop (to - from) bs)) in
           let none : overlaid (overlaid out at front) (at + length front) (drop (to - from) bs) ≡ overlaid out at front =
-              elim (cases_lt (length out) (at + length bs)) [
-                | inl m ↦ put_past (overlaid out at front) (at + length front) (drop (to - from) bs) (omega (arith, n, put_length out at front))
-                | inr m ↦ ap (overlaid (overlaid out at front) (at + length front)) (drop_all (to - from) bs (omega arith))
-              ] in
+          elim (cases_lt (length out) (at + length bs)) [
+            | inl m ↦ put_past (overlaid out at front) (at + length front) (drop (to - from) bs) (omega (arith, n, put_length out at front))
+            | inr m ↦ ap (overlaid (overlaid out at front) (at + length front)) (drop_all (to - from) bs (omega arith))
+          ] in
           whole ∙ none ∙ overlaid_is out at front ∙ sets-eq front out at (omega arith) ∙ append_assoc (take at out) front _
           ∙ ap (λ k. take k out ++ (front ++ drop (k + length front) out)) (sym a)
           ∙ ap (λ k. take from out ++ (front ++ drop (from + k) out)) n
