@@ -1,4 +1,5 @@
-use Rattle.std.proofs.Common.{◌<◌, ◌-◌, ◌∙◌, [], length, ap, arith, sym, subst}
+use Rattle.entry_vectors.proofs.Products.{code_below}
+use Rattle.std.proofs.Common.{ℕ, get_or, rules, ◌<◌, ◌-◌, ◌∙◌, [], length, ap, arith, sym, subst}
 use Rattle.std.proofs.ByRecursion.{All-get_or}
 use Rattle.std.proofs.lemmas.Iterator.{YieldsList-from_zip}
 use Rattle.std.proofs.lemmas.Iterator.Adapters.{YieldsList-from_rev_slice}
@@ -24,7 +25,9 @@ mul-requires g c =
     let weights = subst (AllBelow q) (sym c.finals.ensures.are) v.sound.finals in
     let codes = subst (AllBelow q) (sym c.in-Some.ensures.is.1) (All-get_or (AllBelow q) vs (length vs - 1) [] (omega (arith, c.in-Some.ensures.is.0)) v.codes) in
     let pairs = all_zip _ _ _ _ (all_reverse (λ w. w < q) ws weights) (all_reverse (λ x. x < q) xs codes) in
-    all_at _ _ _ (c.in-Some-2.weight.now, c.in-Some-2.x.now) pairs turn
+    let both = all_at _ _ _ (c.in-Some-2.weight.now, c.in-Some-2.x.now) pairs turn in
+    let any : (i : ℕ) → get_or ws i 0 < q = λ i. code_below q ws i (omega (arith, both.0)) weights in
+    (search (rules, both, any), both.1)
 
 pub returns-clause-value : goal.returns-clause-value
 returns-clause-value g c =
