@@ -9,20 +9,21 @@ ghost use Rattle.reader.specs.Reads.{Took, TookBytes, meaning};
 
 use crate::reader::Reader;
 use drafts::Draft;
-use lines::{Line, Side, parse};
+use lines::{Line, Side, first_name, parse};
 use places::{Place, may_follow};
 use refusals::Refusal;
 use tables::Children;
 
-// The children of a rule of a side, by their names, which are parted by spaces. Each part is taken with its space: after
-// a last space `split` would give an empty name.
+// The children of a rule of a side, by their names, which are parted by spaces. A loop by what `first_name` leaves: it says
+// where a name ends, for the reader and for other callers alike, and what it leaves are the names still to be looked up.
 fn children(draft: &Draft, side: Side, names: &[u8]) -> Children
     ensures { ChildrenAre draft.now side (parted names.now) result }
 {
     let mut children = Children::none();
-    for part in names.split_inclusive(|b| *b == b' ') {
-        let name = part.strip_suffix(b" ").unwrap_or(part);
+    let mut rest = names;
+    while let Some((name, more)) = first_name(rest) {
         children = draft.and_child(side, children, name);
+        rest = more;
     }
     children
 }
