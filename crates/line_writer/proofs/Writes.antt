@@ -1,8 +1,11 @@
--- How lines are made of fields, and names are looked up.
-use Rattle.std.proofs.Common.{◌≡◌, ℕ, ◌-◌, ◌<◌, ◌≤◌, List, [], ◌∷◌, ◌++◌, map, length, get_or, sym, refl, ap, ◌∙◌, append_assoc}
+-- How lines are made of fields, names are looked up, and writing goes on.
+use Rattle.std.proofs.Common.{◌≡◌, ℕ, ◌+◌, ◌-◌, ◌^◌, ◌<◌, ◌≤◌, List, [], ◌∷◌, ◌++◌, map, length, get_or, sym, refl, ap, ◌∙◌, append_assoc}
+use Rattle.std.specs.Prelude.{min}
 use Rattle.std.specs.List.{flat_map}
 use Rattle.std.proofs.lemmas.List.{get_or-map, get_or_past, length-map}
+use Rattle.words.specs.Puts.{Writes, overlaid}
 use Rattle.words.specs.Words.{spaced}
+use Rattle.words.specs.declared.pen.Pen.{Pen}
 use Rattle.line_writer.specs.Writing.{after_space, named}
 
 -- what follows the first field of a line
@@ -27,3 +30,12 @@ module _ {X : Type 0} (called : X → List ℕ) (xs : List X) {i : ℕ} (k : ℕ
 
   pub name_past : length xs ≤ i → [] ≡ named (map called xs) k
   name_past l = sym (get_or_past (map called xs) (k - 1) [] (rw (← e) (simp length-map l)))
+
+-- what is written where a pen stands is written by that pen
+pub from_there : {a b c : Pen} {xs : List ℕ} → Writes b xs c → b.out.ghost_name ≡ a.out.ghost_name → b.out.now ≡ a.out.now → b.at ≡ a.at → Writes a xs c
+from_there {a} {b} {c} {xs} p same holds place =
+    record {
+      same_buffer = p.same_buffer ∙ same;
+      place = p.place ∙ ap (λ k. min (k + length xs) (2 ^ 64 - 1)) place;
+      put = p.put ∙ ap (λ o. overlaid o b.at xs) holds ∙ ap (λ k. overlaid a.out.now k xs) place;
+    }
