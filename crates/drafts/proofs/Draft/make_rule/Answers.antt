@@ -1,4 +1,4 @@
-use Rattle.std.proofs.Common.{ℕ, List, sym, ap, ◌∙◌, inl, inr, refl, rules, arith}
+use Rattle.std.proofs.Common.{◌≡◌, ℕ, List, Some, sym, ap, ◌∙◌, inl, inr, refl, rules, arith}
 use lib.ListN.{length-map}
 use Rattle.std.proofs.lemmas.Result.{err_from_is_err_and}
 use Rattle.format.specs.Reading.{Place}
@@ -25,7 +25,8 @@ found c cs k p =
     let d = c.args.self.now in
     let x = c.args.side in
     let s = rw c.in_ok-symbol.ensures.ok_part at c.symbol_number.ensures in
-    let t = rw c.in_ok-target.ensures.ok_part at c.state_number.ensures in
+    let is_state : c.state_number.result ≡ Some c.in_ok-target.target = c.in_ok-target.ensures.ok_part in
+    let t = rw is_state at c.state_number.ensures in
     let target = number_at d x p c.args.target.now c.part-part.result.now c.in_ok-target.target c.part-part.ensures t.1 in
     let r = rank_at d c.args.symbol.now c.in_ok-symbol.symbol c.rank.result s.1 c.rank.ensures.is in
     record {
