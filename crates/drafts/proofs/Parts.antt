@@ -1,5 +1,5 @@
 -- The part of a side in a draft, and it replaced. Assumes nothing.
-use Rattle.std.proofs.Common.{◌≡◌, ℕ, ◌≤◌, refl, ap}
+use Rattle.std.proofs.Common.{◌≡◌, ◌≤◌, refl, ap}
 use Rattle.format.specs.Reading.{Place, draft_part, with_part}
 use Rattle.format.specs.Records as records
 use Rattle.lines.specs.Recognized.{side_of}

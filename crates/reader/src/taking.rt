@@ -14,8 +14,8 @@ use places::{Place, may_follow};
 use refusals::Refusal;
 use tables::Children;
 
-// The children of a rule of a side, by their names, which are parted by spaces. A loop by what `first_name` leaves: it is
-// what tells the names of a line apart, one at a time, and the part that it leaves has the names still to be taken.
+// The children of a rule of a side, by their names, which are parted by spaces. A loop by what `first_name` leaves: it says
+// where a name ends, for the reader and for other callers alike, and what it leaves are the names still to be looked up.
 fn children(draft: &Draft, side: Side, names: &[u8]) -> Children
     ensures { ChildrenAre draft.now side (parted names.now) result }
 {

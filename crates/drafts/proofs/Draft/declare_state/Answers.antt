@@ -1,4 +1,4 @@
-use Rattle.std.proofs.Common.{◌<◌, ◌≡◌, ◌∷◌, [], ◌++◌, length, false, None, refl, ap, ap₂, ◌∙◌, subst, rules}
+use Rattle.std.proofs.Common.{◌<◌, ◌≡◌, ◌∷◌, [], ◌++◌, length, refl, ap, ap₂, ◌∙◌, subst, rules}
 use Rattle.table.proofs.Mapped.{adds_map}
 use Rattle.tables.specs.Tables.{state_of}
 use Rattle.format.specs.Records as records
