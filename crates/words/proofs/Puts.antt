@@ -4,9 +4,7 @@ use Rattle.std.specs.Prelude.{min}
 use Rattle.std.specs.List.{flat_map}
 use lib.Seq.{sets, length-sets, sets-eq}
 use Rattle.std.proofs.lemmas.Bool.{cases_lt}
-use Rattle.std.proofs.lemmas.List.{take_at, drop_at, set_past, take_all, drop_all, drop-drop, take_more, flat_map_more, map_push}
-use mathlib.Core.List.{append_assoc}
-use borrow.Rule.Slice.PartMut.{put_mid}
+use Rattle.std.proofs.lemmas.List.{take_at, drop_at, set_past, take_all, drop_all, take_more, flat_map_more, map_push}
 use Rattle.words.specs.Puts.{Writes, overlaid}
 use Rattle.words.specs.declared.pen.Pen.{Pen}
 
@@ -23,34 +21,27 @@ put_append out at [] ys = rw add-zero
 put_append out at (x ∷ xs) ys = rw (add-suc, ← suc-add) (put_append (set out at x) (suc at) xs ys)
 
 -- past its end a buffer stays as it is
-put_past : (out : List ℕ) (at : ℕ) (bs : List ℕ) → length out ≤ at → overlaid out at bs ≡ out
+pub put_past : (out : List ℕ) (at : ℕ) (bs : List ℕ) → length out ≤ at → overlaid out at bs ≡ out
 put_past out at [] past = refl
 put_past out at (b ∷ bs) past = rw (set_past out at b past) (put_past out (suc at) bs (omega arith))
 
--- what a buffer takes of the bytes is copied into the part of it that they reach
-pub put_part : (out : List ℕ) (at : ℕ) (bs : List ℕ) (from to : ℕ) → from ≡ min at (length out) → to ≡ min (at + length bs) (length out) → overlaid out at bs ≡ put_mid from (to - from) out (take (to - from) bs)
-put_part out at bs from to f t =
-    elim (cases_lt at (length out)) [
-      | inl l ↦
-          let a : from ≡ at = omega arith in
-          let front : List ℕ = take (to - from) bs in
-          let n : length front ≡ to - from = length-take-le (to - from) bs (omega arith) in
-          let whole : overlaid out at bs ≡ overlaid (overlaid out at front) (at + length front) (drop (to - from) bs) =
-          ap (overlaid out at) (sym (take-append-drop (to - from) bs)) ∙ sym (put_append out at front (drop (to - from) bs)) in
-          let none : overlaid (overlaid out at front) (at + length front) (drop (to - from) bs) ≡ overlaid out at front =
-          elim (cases_lt (length out) (at + length bs)) [
-            | inl m ↦ put_past (overlaid out at front) (at + length front) (drop (to - from) bs) (omega (arith, n, put_length out at front))
-            | inr m ↦ ap (overlaid (overlaid out at front) (at + length front)) (drop_all (to - from) bs (omega arith))
-          ] in
-          whole ∙ none ∙ overlaid_is out at front ∙ sets-eq front out at (omega arith) ∙ append_assoc (take at out) front _
-          ∙ ap (λ k. take k out ++ (front ++ drop (k + length front) out)) (sym a)
-          ∙ ap (λ k. take from out ++ (front ++ drop (from + k) out)) n
-          ∙ ap (λ l. take from out ++ (front ++ l)) (sym (drop-drop (to - from) from out))
-      | inr l ↦
-          let k : to - from ≡ 0 = omega arith in
-          let a : from ≡ length out = omega arith in
-          put_past out at bs l ∙ rw (k, a) (sym (take-append-drop (length out) out))
-    ]
+-- of the bytes a buffer takes those before its end
+pub put_front : (out : List ℕ) (at : ℕ) (bs : List ℕ) (n : ℕ) → n ≡ min (length bs) (length out - at) → overlaid out at (take n bs) ≡ overlaid out at bs
+put_front out at bs n e =
+    let front : List ℕ = take n bs in
+    let l : length front ≡ n = length-take-le n bs (omega arith) in
+    let none : overlaid (overlaid out at front) (at + length front) (drop n bs) ≡ overlaid out at front =
+    elim (cases_lt n (length bs)) [
+      | inl m ↦ put_past (overlaid out at front) (at + length front) (drop n bs) (omega (arith, l, put_length out at front))
+      | inr m ↦ ap (overlaid (overlaid out at front) (at + length front)) (drop_all n bs m)
+    ] in
+    sym none ∙ put_append out at front (drop n bs) ∙ ap (overlaid out at) (take-append-drop n bs)
+
+-- bytes one by one
+pub put_next : (out : List ℕ) (at : ℕ) (bs : List ℕ) (i : ℕ) → i < length bs → set (overlaid out at (take i bs)) (at + i) (get_or bs i 0) ≡ overlaid out at (take (i + 1) bs)
+put_next out at bs i l =
+    let n : length (take i bs) ≡ i = length-take-le i bs (omega arith) in
+    ap (λ k. set (overlaid out at (take i bs)) (at + k) (get_or bs i 0)) (sym n) ∙ put_append out at (take i bs) (get_or bs i 0 ∷ []) ∙ ap (overlaid out at) (sym (take_more bs i 0 l))
 
 -- a place that stopped at one past the end is as good as the place after it
 put_mostped : (out : List ℕ) (at most : ℕ) (bs : List ℕ) → length out ≤ most → overlaid out (min at most) bs ≡ overlaid out at bs
@@ -60,6 +51,12 @@ put_mostped out at most bs h =
       | inr l ↦ let e : min at most ≡ most = omega arith in rw (e, put_past out most bs h, put_past out at bs (omega arith))
     ]
 
+-- one write after another is the write of both, where the place stopped between them too
+pub put_then : (out mid last : List ℕ) (at next : ℕ) (xs ys : List ℕ) → length out < 2 ^ 64 → next ≡ min (at + length xs) (2 ^ 64 - 1) → mid ≡ overlaid out at xs → last ≡ overlaid mid next ys → last ≡ overlaid out at (xs ++ ys)
+put_then out mid last at next xs ys short n m l =
+    l ∙ ap (λ o. overlaid o next ys) m ∙ ap (λ k. overlaid (overlaid out at xs) k ys) n
+    ∙ put_mostped (overlaid out at xs) (at + length xs) (2 ^ 64 - 1) ys (omega (arith, put_length out at xs, short)) ∙ put_append out at xs ys
+
 -- one write after another
 infixr 5 ◌then◌
 pub ◌then◌ : {a b c : Pen} {xs ys : List ℕ} → Writes a xs b → Writes b ys c → Writes a (xs ++ ys) c
@@ -67,8 +64,7 @@ pub ◌then◌ : {a b c : Pen} {xs ys : List ℕ} → Writes a xs b → Writes b
     record {
       same_buffer = q.same_buffer ∙ p.same_buffer;
       place = let l = length-append xs ys in omega (arith, l, p.place, q.place);
-      put = q.put ∙ ap (λ o. overlaid o b.at ys) p.put ∙ ap (λ k. overlaid (overlaid a.out.now a.at xs) k ys) p.place
-          ∙ put_mostped (overlaid a.out.now a.at xs) (a.at + length xs) (2 ^ 64 - 1) ys (omega (arith, put_length a.out.now a.at xs, a.short)) ∙ put_append a.out.now a.at xs ys;
+      put = put_then a.out.now b.out.now c.out.now a.at b.at xs ys a.short p.place p.put q.put;
     }
 
 -- the same bytes, said otherwise

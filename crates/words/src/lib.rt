@@ -6,6 +6,7 @@ ghost use Rattle.words.specs.Words.{Cut, Lacks, Number};
 
 mod name;
 mod pen;
+mod put;
 mod spelling;
 mod writing;
 

@@ -5,6 +5,7 @@ ghost use Rattle.words.specs.Spelled.{spelled};
 
 use crate::name::Name;
 use crate::pen::Pen;
+use crate::put::{last_digit, put_byte, put_decimal};
 
 impl<'a> Pen<'a> {
     // A pen at the start of the buffer.
@@ -45,21 +46,21 @@ impl<'a> Pen<'a> {
     pub fn byte(&mut self, b: u8)
         ensures { Writes self.old (b ∷ []) self.new }
     {
-        if self.at < self.out.len() {
-            self.out[self.at] = b;
-        }
-        self.at = self.at.saturating_add(1);
+        self.at = put_byte(self.out, self.at, b);
     }
 
     // Writes the bytes.
     pub fn bytes(&mut self, bytes: &[u8])
         ensures { Writes self.old bytes.now self.new }
     {
-        let from = self.at.min(self.out.len());
-        let next = self.at.saturating_add(bytes.len());
-        let to = next.min(self.out.len());
-        self.out[from..to].copy_from_slice(&bytes[..to - from]);
-        self.at = next;
+        let at = self.at;
+        if at < self.out.len() {
+            let taken = &bytes[..bytes.len().min(self.out.len() - at)];
+            for (i, b) in taken.iter().enumerate() {
+                self.out[at + i] = *b;
+            }
+        }
+        self.at = at.saturating_add(bytes.len());
     }
 
     // Writes `n` in decimal.
@@ -68,16 +69,19 @@ impl<'a> Pen<'a> {
         ensures near { self.new.at ≤ self.old.at + 10 }
     {
         if n >= 10 {
-            self.number(n / 10);
+            self.at = put_decimal(self.out, self.at, n / 10);
         }
-        self.byte(b'0' + (n % 10) as u8);
+        self.byte(last_digit(n));
     }
 
-    // Writes the name.
+    // Writes the name; one letter without a loop.
     pub fn name(&mut self, name: &Name)
         ensures writes { Writes self.old (spelled name.now) self.new }
         ensures near { self.new.at ≤ self.old.at + 8 }
     {
-        self.bytes(name.spelling());
+        match name.spelling() {
+            [b] => self.byte(*b),
+            bytes => self.bytes(bytes),
+        }
     }
 }

@@ -1,4 +1,5 @@
-// The blocks of a text, each a heading and its lines.
+// The blocks of a text, each a heading and its lines. The sides go by a loop: what is called in one place is laid into its caller,
+// and the pen, whose address then goes nowhere, stays in registers.
 ghost use Rattle.drafts.specs.Drafts.{record_of};
 ghost use Rattle.format.specs.Lines.{text_of_lines};
 ghost use Rattle.format.specs.Records.{rule_lines, state_lines};
@@ -58,8 +59,9 @@ pub fn put_both_states(pen: &mut Pen<'_>, d: &Draft)
     ensures { Writes pen.old (text_of_lines (state_block (record_of d.now))) pen.new }
 {
     pen.bytes(b"side state final\n");
-    put_states(pen, d, Side::A);
-    put_states(pen, d, Side::B);
+    for side in [Side::A, Side::B] {
+        put_states(pen, d, side);
+    }
 }
 
 // The block of rules.
@@ -67,6 +69,7 @@ pub fn put_both_rules(pen: &mut Pen<'_>, d: &Draft)
     ensures { Writes pen.old (text_of_lines (rule_block (record_of d.now))) pen.new }
 {
     pen.bytes(b"side symbol target weight children\n");
-    put_rules(pen, d, Side::A);
-    put_rules(pen, d, Side::B);
+    for side in [Side::A, Side::B] {
+        put_rules(pen, d, side);
+    }
 }
